@@ -1,0 +1,29 @@
+-- Laws of the calls that proofs cite in place of the definitions' text.
+use mathlib.Core.Path.{_≡_}
+use mathlib.Core.List.{List}
+use Prim.Native.Nat.{ℕ, _<_}
+use lib.ListN.{length, getD}
+use lib.Ieee.{Float, nan}
+use borrow.Author.Tests.{eq-eqb, ne-eqb}
+use Rattle.number.specs.Number.{zero32}
+use Rattle.table.specs.Table.{points, lookupOf, tableCode, diagonalAt}
+use Rattle.table.proofs.Laws.{length-tabulated, tabulated-at}
+use Rattle.curve.specs.CurveCalls.{lookupCall, diagonalTable}
+
+-- a table that is accepted is looked up; one that is refused gives its row and 0
+pub lookup-accepted : (t : List Float) (x : Float) → tableCode t ≡ 0 → lookupCall t x ≡ record { code = 0; value = lookupOf t x }
+unfolding lookupCall
+lookup-accepted t x h = simp (eq-eqb _ _ h)
+
+pub lookup-refused : (t : List Float) (x : Float) → (tableCode t ≡ 0 → ⊥) → lookupCall t x ≡ record { code = tableCode t; value = zero32 }
+unfolding lookupCall
+lookup-refused t x h = simp (ne-eqb _ _ h)
+
+-- the diagonal has 513 numbers, and i / 512 at i
+pub length-diagonal : length diagonalTable ≡ points
+unfolding diagonalTable
+length-diagonal = length-tabulated diagonalAt
+
+pub diagonal-at : (i : ℕ) → i < points → getD diagonalTable i nan ≡ diagonalAt i
+unfolding diagonalTable
+diagonal-at i h = tabulated-at diagonalAt i h

@@ -1,0 +1,19 @@
+-- The public calls on tables (document 01, Curve table). Definitions only.
+use mathlib.Core.Bool.{Bool, cond}
+use mathlib.Core.List.{List}
+use Prim.Native.Nat.{ℕ}
+use lib.Dec.{eqb}
+use lib.Ieee.{Float}
+use Rattle.number.specs.Number.{zero32}
+use Rattle.table.specs.Table.{lookupOf, tableCode, tabulated, diagonalAt}
+use Rattle.curve.specs.declared.Looked.{Looked}
+
+-- The table at x (curve.rs 139-145). Only the table's rows apply, 6 and 15: the position is exempt from row 6, since document 01 says what a NaN position
+-- yields. A refusal has the value 0.
+unfoldable pub lookupCall : List Float → Float → Looked
+lookupCall t x =
+    cond (eqb (tableCode t) 0) (record { code = 0; value = lookupOf t x }) (record { code = tableCode t; value = zero32 })
+
+-- the table of the diagonal: i / 512 at i (curve.rs 102-107; document 01, case 6)
+unfoldable pub diagonalTable : List Float
+diagonalTable = tabulated diagonalAt

@@ -1,0 +1,2 @@
+pub mod CurveCalls
+pub mod Examples

@@ -1,0 +1,53 @@
+// Curves: the public calls on tables. The definitions that contracts cite are in specs/CurveCalls.antt and in the crate table.
+ghost use mathlib.Core.Path.{_≡_};
+ghost use Rattle.table.specs.Curve.{isLinear, secondsOf};
+ghost use Rattle.curve.specs.CurveCalls.{lookupCall, diagonalTable};
+use table::Curve;
+use table::Seconds;
+
+// a number by which the call is refused, or 0 and the table's value
+pub struct Looked {
+    pub code: u8,
+    pub value: f32,
+}
+
+// the table at x; a table that is refused gives 0
+pub fn lookup(table: &[f32], x: f32) -> Looked
+    ensures { λ r. ⌜ r ≡ lookupCall (now (table .entry)) x ⌝ }
+{
+    let code = table::table_code(table);
+    if code != 0 {
+        return Looked { code, value: 0.0 };
+    }
+    Looked {
+        code: 0,
+        value: table::lookup(table, x),
+    }
+}
+
+// whether a curve changes nothing
+pub fn is_linear(curve: Curve) -> bool
+    ensures { λ r. ⌜ r ≡ isLinear curve ⌝ }
+{
+    table::is_linear(curve)
+}
+
+// a curve's rise and fall in seconds, below 0 taken as 0
+pub fn slew(curve: Curve) -> Seconds
+    ensures { λ r. ⌜ r ≡ secondsOf curve ⌝ }
+{
+    table::seconds_of(curve)
+}
+
+// the table that maps each number from 0 to 1 to itself
+pub fn diagonal() -> [f32; 513]
+    ensures { λ r. ⌜ r ≡ diagonalTable ⌝ }
+{
+    let mut points = [0.0f32; 513];
+    let mut i = 0usize;
+    while i < 513 {
+        points[i] = i as f32 / 512.0;
+        i += 1;
+    }
+    points
+}

@@ -1,0 +1,3 @@
+pub mod Mul
+pub mod State
+pub mod Exact

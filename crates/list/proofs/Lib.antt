@@ -1,0 +1,5 @@
+pub mod Elements
+pub mod Filled
+pub mod Parts
+pub mod FilledPart
+pub mod Rows

@@ -1,0 +1,1 @@
+// What the calls mean: definitions and theorems, in specs/ and proofs/. There is no code here.

@@ -1,0 +1,5 @@
+pub mod Laws
+pub mod Nearest
+pub mod Same
+pub mod Respects
+pub mod MaxMin

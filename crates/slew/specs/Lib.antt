@@ -1,0 +1,2 @@
+pub mod Slew
+pub mod Examples

@@ -1,0 +1,21 @@
+-- `table::curve_code` meets its contract.
+use mathlib.Core.Path.{_≡_, sym, _∙_}
+use borrow.Author.Needs.{needs}
+use Rattle.judge.specs.Judge.{judged}
+use Rattle.table.specs.Curve.{curveCode}
+use Rattle.table.proofs.curve_code.Statement.{statement}
+use Rattle.table.proofs.curve_code.Tie as tie
+
+seconds-finite-requires : tie.Need-seconds-finite-requires
+seconds-finite-requires c κs = search needs
+
+returns : tie.Need-returns
+unfolding curveCode judged
+returns c = simp (sym (c .before .seconds-finite .ensures) ∙ c .if1 .taken)
+
+returns-2 : tie.Need-returns-2
+unfolding curveCode judged
+returns-2 c = simp (sym (c .before .seconds-finite .ensures) ∙ c .if1 .left)
+
+pub curve-code-spec : {M : Type 1} → statement M
+curve-code-spec = tie.close (tie.spec seconds-finite-requires returns returns-2)
