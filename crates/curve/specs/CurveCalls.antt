@@ -1,7 +1,6 @@
 -- The public calls on tables (document 01, Curve table). Definitions only.
-use mathlib.Core.Bool.{Bool, cond}
+use mathlib.Core.Bool.{cond}
 use mathlib.Core.List.{List}
-use Prim.Native.Nat.{ℕ}
 use lib.Dec.{eqb}
 use lib.Ieee.{Float}
 use Rattle.number.specs.Number.{zero32}
@@ -14,6 +13,6 @@ unfoldable pub lookupCall : List Float → Float → Looked
 lookupCall t x =
     cond (eqb (tableCode t) 0) (record { code = 0; value = lookupOf t x }) (record { code = tableCode t; value = zero32 })
 
--- the table of the diagonal: i / 512 at i (curve.rs 102-107; document 01, case 6)
+-- the table of the diagonal: i / 512 at i (curve.rs 107-109; document 01, case 6)
 unfoldable pub diagonalTable : List Float
 diagonalTable = tabulated diagonalAt

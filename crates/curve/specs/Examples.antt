@@ -1,10 +1,9 @@
 -- The definitions, computed.
 use mathlib.Core.Path.{_≡_, refl}
-use mathlib.Core.Bool.{Bool, true, false}
-use mathlib.Core.List.{List, [], _∷_}
-use Prim.Native.Nat.{ℕ}
+use mathlib.Core.Bool.{false}
+use mathlib.Core.List.{[], _∷_}
 use lib.IntN.{pos}
-use lib.Ieee.{Float, nan, fin, lt, le, add, sub, mul, div, ofInt, toUnsigned}
+use lib.Ieee.{nan, fin, lt, le, add, sub, mul, div, ofInt, toUnsigned}
 use Rattle.judge.specs.Judge.{judged}
 use Rattle.number.specs.Number.{zero32, half32, one32, finite, clampTo}
 use Rattle.table.specs.Table.{position, cellOf, partOf, lookupOf, allowed, allAllowed, tableCode}

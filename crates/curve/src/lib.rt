@@ -3,6 +3,7 @@ ghost use mathlib.Core.Path.{_≡_};
 ghost use Rattle.table.specs.Curve.{isLinear, secondsOf};
 ghost use Rattle.curve.specs.CurveCalls.{lookupCall, diagonalTable};
 use table::Curve;
+use table::POINTS;
 use table::Seconds;
 
 // a number by which the call is refused, or 0 and the table's value
@@ -40,12 +41,12 @@ pub fn slew(curve: Curve) -> Seconds
 }
 
 // the table that maps each number from 0 to 1 to itself
-pub fn diagonal() -> [f32; 513]
+pub fn diagonal() -> [f32; POINTS]
     ensures { λ r. ⌜ r ≡ diagonalTable ⌝ }
 {
-    let mut points = [0.0f32; 513];
+    let mut points = [0.0f32; POINTS];
     let mut i = 0usize;
-    while i < 513 {
+    while i < POINTS {
         points[i] = i as f32 / 512.0;
         i += 1;
     }

@@ -7,11 +7,11 @@ use native.Mathlib.Omega.{arith}
 use lib.Dec.{T, eqb, eqb→eq, eqb-refl}
 use lib.Pow.{pow-pos}
 use lib.IntN.{ℤ, pos, negsuc}
-use lib.Ieee.{Float, nan, inf, fin, binary32, lt, eq, ne, fits, isNan, up, down}
+use lib.Ieee.{Float, nan, inf, fin, binary32, lt, eq, ne, fits, isNan, up, down, add, mul}
 use lib.Ieee.Bits.{is-true}
 use lib.Ieee.Fits.{up-pos, and-l}
 use borrow.Author.Tests.{ltb-true, le-ltb}
-use Rattle.number.specs.Number.{zero32, finite}
+use Rattle.number.specs.Number.{zero32, finite, plus, times}
 
 pub no : false ≡ true → ⊥
 no h = subst T (sym h) tt
@@ -106,3 +106,16 @@ finite-between (fin s m e) hi (inf true) f g n l h = absurd (no (sym l))
 finite-between lo nan (inf false) f g n l h = absurd (no g)
 finite-between lo (inf s) (inf false) f g n l h = absurd (no g)
 finite-between lo (fin s m e) (inf false) f g n l h = absurd (no (sym h))
+
+-- ---- a NaN on the right
+pub plus-nan : (x : Float) → plus x nan ≡ nan
+unfolding add
+plus-nan nan = refl
+plus-nan (inf s) = refl
+plus-nan (fin s m e) = refl
+
+pub times-nan : (x : Float) → times x nan ≡ nan
+unfolding mul
+times-nan nan = refl
+times-nan (inf s) = refl
+times-nan (fin s m e) = refl

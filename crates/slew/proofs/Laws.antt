@@ -1,15 +1,9 @@
 -- Laws of slews that proofs cite in place of the definitions' text.
-use mathlib.Core.Path.{_≡_, refl, ap, _∙_}
-use mathlib.Core.Bool.{Bool, true, false, cond}
-use lib.Ieee.{Float, nan, inf, fin, add, sub, mul, neg, eq}
-use Rattle.number.specs.Number.{zero32, plus, less, times, max32, min32}
+use mathlib.Core.Path.{_≡_, refl}
+use lib.Ieee.{Float, nan, inf, fin, add, sub, mul, eq}
+use Rattle.number.specs.Number.{zero32, plus}
+use Rattle.number.proofs.Laws.{plus-nan}
 use Rattle.slew.specs.Slew.{reach, moved, slewStep}
-
-plus-nan : (x : Float) → plus x nan ≡ nan
-unfolding add
-plus-nan nan = refl
-plus-nan (inf s) = refl
-plus-nan (fin s m e) = refl
 
 -- in no samples nothing moves
 pub reach-none : (rate : Float) → reach rate zero32 ≡ zero32

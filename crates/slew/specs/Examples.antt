@@ -1,10 +1,9 @@
 -- The definitions, computed.
 use mathlib.Core.Path.{_≡_, refl}
-use mathlib.Core.Bool.{Bool, true, false}
-use Prim.Native.Nat.{ℕ}
+use mathlib.Core.Bool.{true, false}
 use lib.IntN.{pos, negsuc}
 use lib.Ieee.{Float, nan, inf, fin, lt, eq, neg, isNan, add, sub, mul, div}
-use Rattle.number.specs.Number.{zero32, half32, one32, max32, min32, nearest32}
+use Rattle.number.specs.Number.{zero32, half32, one32, max32, min32}
 use Rattle.slew.specs.Slew.{ratePerSample, reach, moved, slewStep}
 
 -- 1/4, 2 ^ -30, 32 and 64

@@ -1,5 +1,5 @@
 -- How a slewed value moves, in one lane (document 01, Chunk and value). Definitions only.
-use mathlib.Core.Bool.{Bool, true, false, cond}
+use mathlib.Core.Bool.{false, cond}
 use lib.Ieee.{Float, inf, lt, eq, neg}
 use Rattle.number.specs.Number.{zero32, one32, plus, less, times, over, max32, min32}
 

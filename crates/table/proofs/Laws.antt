@@ -1,26 +1,29 @@
 -- Laws of tables that proofs cite in place of the definitions' text.
-use mathlib.Core.Path.{_≡_, refl, sym, ap, _∙_}
+use mathlib.Core.Path.{_≡_, refl, ap, _∙_}
 use mathlib.Core.Bool.{Bool, true, false, _&&_}
 use mathlib.Core.List.{List, [], _∷_, List·Memᴰ·head, List·Memᴰ·tail}
 use Prim.Native.Nat.{ℕ, zero, suc, _+_, _≤_, _<_}
 use native.Mathlib.Numerals.{add-one}
 use native.Mathlib.Omega.{arith}
-use lib.IntN.{pos}
 use lib.ListN.{length, getD, drop}
 use lib.Seq.{drop-cons, drop-length}
-use lib.Ieee.{Float, nan, inf, fin, lt, le, eq, add, sub, mul, ofInt, toUnsigned}
+use lib.Ieee.{Float, nan, inf, fin, lt, add, sub, mul, ofInt, toUnsigned}
 use borrow.Author.Tests.{not-false, eqb-true}
 use Rattle.judge.proofs.Laws.{judged-accepted}
 use Rattle.number.specs.Number.{zero32, one32, plus, times, clampTo, finite}
+use Rattle.number.proofs.Laws.{plus-nan, times-nan}
 use Rattle.number.proofs.Laws.{no}
-use Rattle.table.specs.Table.{lastCell, position, cellOf, partOf, lookupOf, allowed, allAllowed, tableRows, tableCode, fromIndex, tabulated, points}
+use Rattle.table.specs.Table.{lastCell, position, cellAt, cellOf, partOf, lookupOf, allowed, allAllowed, tableRows, tableCode, fromIndex, tabulated, points}
 
 -- ---- the lookup
 
--- the cell after a cell is in the table
+-- the point after a cell's is in the table
+pub cell-at-most : (p : Float) → cellAt p ≤ lastCell
+cell-at-most p = omega arith
+
 pub cell-most : (x : Float) → cellOf x ≤ lastCell
 unfolding cellOf
-cell-most x = omega arith
+cell-most x = cell-at-most (position x)
 
 -- below 0: the start of the first cell
 pub cell-below : (x : Float) → lt x zero32 ≡ true → cellOf x ≡ 0
@@ -40,7 +43,7 @@ pub part-above : (x : Float) → lt x zero32 ≡ false → lt one32 x ≡ true �
 unfolding partOf cellOf position clampTo mul toUnsigned sub add ofInt
 part-above x l h = simp (l, h)
 
--- a NaN: the first cell, and no part of it
+-- a NaN: the first cell, and a NaN as the part
 pub cell-nan : cellOf nan ≡ 0
 unfolding cellOf position clampTo lt mul toUnsigned
 cell-nan = refl
@@ -48,18 +51,6 @@ cell-nan = refl
 pub part-nan : partOf nan ≡ nan
 unfolding partOf position clampTo lt mul sub add
 part-nan = refl
-
-times-nan : (x : Float) → times x nan ≡ nan
-unfolding mul
-times-nan nan = refl
-times-nan (inf s) = refl
-times-nan (fin s m e) = refl
-
-plus-nan : (x : Float) → plus x nan ≡ nan
-unfolding add
-plus-nan nan = refl
-plus-nan (inf s) = refl
-plus-nan (fin s m e) = refl
 
 -- the table at a NaN is a NaN, whatever it holds
 pub lookup-nan : (t : List Float) → lookupOf t nan ≡ nan

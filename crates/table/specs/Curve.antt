@@ -8,7 +8,7 @@ use Rattle.table.specs.declared.Curve.{Curve}
 use Rattle.table.specs.declared.Curve.the-variants as C
 use Rattle.table.specs.declared.Seconds.{Seconds}
 
--- curve.rs 74-76
+-- the mark "linear", which changes nothing (curve.rs 74-76)
 abbrev pub isLinear : Curve → Bool
 isLinear C.Linear = true
 isLinear (C.Table rise fall) = false

@@ -1,14 +1,13 @@
 -- The definitions, computed.
 use mathlib.Core.Path.{_≡_, refl}
-use mathlib.Core.Bool.{Bool, true, false, cond}
-use mathlib.Core.List.{List, [], _∷_}
-use Prim.Native.Nat.{ℕ}
+use mathlib.Core.Bool.{true, false, cond}
+use mathlib.Core.List.{[], _∷_}
 use lib.Dec.{eqb}
 use lib.IntN.{pos, negsuc}
-use lib.Ieee.{Float, nan, inf, fin, lt, le, neg, isNan, add, sub, mul, div, ofInt, toUnsigned}
+use lib.Ieee.{nan, inf, fin, lt, le, neg, isNan, add, sub, mul, div, ofInt, toUnsigned}
 use Rattle.judge.specs.Judge.{judged}
 use Rattle.number.specs.Number.{zero32, half32, one32, finite, max32, clampTo, nearest32}
-use Rattle.table.specs.Table.{points, cells32, position, cellOf, partOf, lookupOf, most32, least32, allowed, allAllowed, tableCode, fromIndex, tabulated, diagonalAt}
+use Rattle.table.specs.Table.{cells32, position, cellOf, partOf, lookupOf, most32, least32, allowed, allAllowed, tableCode, fromIndex, tabulated, diagonalAt}
 use Rattle.table.specs.Curve.{secondsOf, secondsFinite, curveCode}
 use Rattle.table.specs.declared.Curve.the-variants as C
 

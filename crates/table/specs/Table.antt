@@ -9,7 +9,7 @@ use lib.Ieee.{Float, nan, fin, le}
 use Rattle.judge.specs.Judge.{Row, judged, _when_}
 use Rattle.number.specs.Number.{zero32, one32, plus, less, times, over, finite, clampTo, wholePart, nearest32}
 
--- a table has 512 cells between its 513 points (curve.rs 28, 98-100)
+-- a table has 512 cells between its 513 points (curve.rs 27, 99-101)
 abbrev pub points : ℕ
 points = 513
 
@@ -25,18 +25,22 @@ cells32 = fin false 1 (pos 9)
 unfoldable pub position : Float → Float
 position x = times (clampTo zero32 one32 x) cells32
 
--- its whole part, at most 511; 0 for a NaN
-unfoldable pub cellOf : Float → ℕ
-cellOf x = min (wholePart (position x)) lastCell
+-- the cell of a position: its whole part, at most 511; 0 for a NaN
+abbrev pub cellAt : Float → ℕ
+cellAt p = min (wholePart p) lastCell
 
--- what is left of the position
+unfoldable pub cellOf : Float → ℕ
+cellOf x = cellAt (position x)
+
+-- how far into its cell: what is left of the position
 unfoldable pub partOf : Float → Float
 partOf x = less (position x) (nearest32 (cellOf x))
 
--- from a towards b by that part
+-- from a towards b by so large a part of the way, each operation rounded
 abbrev pub between : Float → Float → Float → Float
 between a b part = plus a (times (less b a) part)
 
+-- the table's numbers at the cell and after it, and the part between them
 unfoldable pub lookupOf : List Float → Float → Float
 lookupOf t x = between (getD t (cellOf x) nan) (getD t (cellOf x + 1) nan) (partOf x)
 
@@ -71,10 +75,10 @@ abbrev pub fromIndex : (ℕ → Float) → ℕ → ℕ → List Float
 fromIndex f i zero = []
 fromIndex f i (suc n) = f i ∷ fromIndex f (suc i) n
 
--- a table that a function of the index fills (curve.rs 98-100)
+-- a table that a function of the index fills (curve.rs 99-101)
 abbrev pub tabulated : (ℕ → Float) → List Float
 tabulated f = fromIndex f 0 points
 
--- the diagonal's point i: i / 512 (curve.rs 99, 104-107; document 01, case 6)
+-- the diagonal's point i: i / 512 (curve.rs 100, 107-109; document 01, case 6)
 abbrev pub diagonalAt : ℕ → Float
 diagonalAt i = over (nearest32 i) cells32

@@ -2,8 +2,13 @@
 ghost use mathlib.Core.Path.{_≡_};
 ghost use Prim.Native.Nat.{_≤_};
 ghost use lib.ListN.{length};
-ghost use Rattle.table.specs.Table.{points, position, cellOf, partOf, lookupOf, allowed, allAllowed, tableCode};
+ghost use Rattle.table.specs.Table.{points, position, cellAt, cellOf, lookupOf, allowed, allAllowed, tableCode};
 ghost use Rattle.table.specs.Curve.{isLinear, secondsOf, secondsFinite, curveCode};
+
+// the numbers of a table, and its last cell
+pub const POINTS: usize = 513;
+
+pub const LAST_CELL: usize = 511;
 
 // a slot's curve: linear, or a table, whose numbers stand elsewhere, with its seconds
 pub enum Curve {
@@ -24,19 +29,19 @@ pub fn position(x: f32) -> f32
     number::clamp(0.0, 1.0, x) * 512.0
 }
 
-// the cell of x: the number of the table's point below it
+// the cell of a position: the number of the point below it
+pub fn cell_at(p: f32) -> usize
+    ensures { λ r. ⌜ r ≡ cellAt p ⌝ }
+{
+    let whole = number::whole_part(p) as usize;
+    if whole < LAST_CELL { whole } else { LAST_CELL }
+}
+
+// the cell of x
 pub fn cell_of(x: f32) -> usize
     ensures { λ r. ⌜ r ≡ cellOf x ⌝ }
 {
-    let whole = number::whole_part(position(x)) as usize;
-    if whole < 511 { whole } else { 511 }
-}
-
-// how far x lies into its cell, from 0 to 1
-pub fn part_of(x: f32) -> f32
-    ensures { λ r. ⌜ r ≡ partOf x ⌝ }
-{
-    position(x) - cell_of(x) as f32
+    cell_at(position(x))
 }
 
 // the table at x, between the two points that x lies between
@@ -44,10 +49,11 @@ pub fn lookup(table: &[f32], x: f32) -> f32
     requires { ⌜ points ≤ length (now table) ⌝ }
     ensures { λ r. ⌜ r ≡ lookupOf (now (table .entry)) x ⌝ }
 {
-    let i = cell_of(x);
+    let p = position(x);
+    let i = cell_at(p);
     let a = table[i];
     let b = table[i + 1];
-    a + (b - a) * part_of(x)
+    a + (b - a) * (p - i as f32)
 }
 
 // whether a table may hold x
@@ -78,7 +84,7 @@ pub fn table_code(table: &[f32]) -> u8
     if !numbers_allowed(table) {
         return 6;
     }
-    if table.len() != 513 {
+    if table.len() != POINTS {
         return 15;
     }
     0

@@ -1,5 +1,5 @@
 -- `curve::lookup` meets its contract.
-use mathlib.Core.Path.{_≡_, sym, _∙_}
+use mathlib.Core.Path.{sym, _∙_}
 use native.Mathlib.Omega.{arith}
 use borrow.Author.Needs.{needs}
 use lib.Ieee.{ofBits}
@@ -16,7 +16,7 @@ unfolding ofBits
 returns c =
     let a = c .before .before .before .args in
     let code = c .before .table-code .ensures in
-    cc (code, lookup-refused (a .table .now) (a .x) (λ e. c .if1 .taken (code ∙ e)))
+    rw (code, lookup-refused (a .table .now) (a .x) (λ e. c .if1 .taken (code ∙ e)))
 
 lookup-requires : tie.Need-lookup-requires
 lookup-requires c κs =
@@ -27,7 +27,7 @@ returns-2 : tie.Need-returns-2
 returns-2 c =
     let a = c .before .before .before .before .args in
     let code = c .before .before .table-code .ensures in
-    cc (c .lookup .ensures, lookup-accepted (a .table .now) (a .x) (sym code ∙ c .before .if1 .left))
+    rw (c .lookup .ensures, lookup-accepted (a .table .now) (a .x) (sym code ∙ c .before .if1 .left))
 
 pub lookup-spec : {M : Type 1} → statement M
 lookup-spec = tie.close (tie.spec table-code-requires returns lookup-requires returns-2)

@@ -12,7 +12,7 @@ min-requires c κs = search needs
 
 returns : tie.Need-returns
 unfolding slewStep moved
-returns c = cc (c .min .ensures, c .before .max .ensures)
+returns c = rw (c .min .ensures, c .before .max .ensures)
 
 pub step-spec : {M : Type 1} → statement M
 step-spec = tie.close (tie.spec max-requires min-requires returns)

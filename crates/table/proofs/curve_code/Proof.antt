@@ -1,5 +1,5 @@
 -- `table::curve_code` meets its contract.
-use mathlib.Core.Path.{_≡_, sym, _∙_}
+use mathlib.Core.Path.{sym, _∙_}
 use borrow.Author.Needs.{needs}
 use Rattle.judge.specs.Judge.{judged}
 use Rattle.table.specs.Curve.{curveCode}

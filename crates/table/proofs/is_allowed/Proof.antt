@@ -1,7 +1,7 @@
 -- `table::is_allowed` meets its contract: what lies between two finite numbers is finite.
-use mathlib.Core.Path.{_≡_, refl, sym, _∙_}
-use mathlib.Core.Bool.{Bool, true, false}
-use lib.Ieee.{Float, nan, inf, fin, lt, eq, le, neg, ofBits}
+use mathlib.Core.Path.{_≡_, refl}
+use mathlib.Core.Bool.{true, false}
+use lib.Ieee.{Float, nan, inf, fin, le, neg, ofBits}
 use Rattle.number.specs.Number.{finite}
 use Rattle.number.proofs.Laws.{no}
 use Rattle.table.specs.Table.{least32, most32, allowed}

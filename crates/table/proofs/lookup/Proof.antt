@@ -1,45 +1,52 @@
 -- `table::lookup` meets its contract.
-use native.Mathlib.Omega.{arith}
-use Rattle.table.specs.Table.{lookupOf}
-use Rattle.table.proofs.Laws.{cell-most}
 use borrow.Author.Needs.{needs}
+use lib.Dec.{le→leb}
+use lib.Ieee.{inFloat}
+use Rattle.table.specs.Table.{cellOf, partOf, lookupOf}
 use Rattle.table.proofs.lookup.Statement.{statement}
 use Rattle.table.proofs.lookup.Tie as tie
 
-cell-of-requires : tie.Need-cell-of-requires
-cell-of-requires c κs = search needs
+position-requires : tie.Need-position-requires
+position-requires c κs = search needs
+
+cell-at-requires : tie.Need-cell-at-requires
+cell-at-requires c κs = search needs
 
 mul-a : tie.Need-mul-a
-mul-a c = omega (arith, cell-most (c .before .before .args .x))
+mul-a c = search needs
 
 shared-slice-read-a : tie.Need-shared-slice-read-a
-shared-slice-read-a c = omega (arith, cell-most (c .before .before .before .args .x))
+shared-slice-read-a c = search needs
 
 add-b : tie.Need-add-b
-add-b c = omega (arith, cell-most (c .before .before .before .args .x))
+add-b c = search needs
 
 mul-b : tie.Need-mul-b
-mul-b c = omega (arith, cell-most (c .before .before .before .args .x))
+mul-b c = search needs
 
 shared-slice-read-b : tie.Need-shared-slice-read-b
-shared-slice-read-b c = omega (arith, cell-most (c .before .before .before .before .args .x))
+shared-slice-read-b c = search needs
 
-part-of-requires : tie.Need-part-of-requires
-part-of-requires c κs = search needs
+int-to-float-result : tie.Need-int-to-float-result
+unfolding inFloat
+int-to-float-result c = le→leb (c .before .before .before .cell-at .result) 16777216 (search needs)
 
 returns : tie.Need-returns
-unfolding lookupOf
-returns c = cc
+unfolding cellOf partOf lookupOf
+returns c =
+    let found = c .before .before .before in
+    rw (found .cell-at .ensures, found .before .position .ensures)
 
 pub lookup-spec : {M : Type 1} → statement M
 lookup-spec =
     tie.close
     (tie.spec
-    cell-of-requires
+    position-requires
+    cell-at-requires
     mul-a
     shared-slice-read-a
     add-b
     mul-b
     shared-slice-read-b
-    part-of-requires
+    int-to-float-result
     returns)

@@ -10,7 +10,7 @@ clamp-requires c κs = search needs
 
 returns : tie.Need-returns
 unfolding position ofBits
-returns c = cc (c .clamp .ensures)
+returns c = rw (c .clamp .ensures)
 
 pub position-spec : {M : Type 1} → statement M
 position-spec = tie.close (tie.spec clamp-requires returns)

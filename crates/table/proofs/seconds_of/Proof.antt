@@ -1,5 +1,5 @@
 -- `table::seconds_of` meets its contract.
-use mathlib.Core.Path.{_≡_, sym, ap, _∙_}
+use mathlib.Core.Path.{sym, ap}
 use borrow.Author.Needs.{needs}
 use lib.Ieee.{ofBits}
 use Rattle.table.specs.Curve.{secondsOf}
@@ -26,7 +26,7 @@ returns-2 : tie.Need-returns-2
 unfolding secondsOf ofBits
 returns-2 c =
     let variant = c .before .before .before .curve .given .1 in
-    cc (c .before .max .ensures, c .max2 .ensures, ap secondsOf variant)
+    rw (c .before .max .ensures, c .max2 .ensures, variant)
 
 pub seconds-of-spec : {M : Type 1} → statement M
 seconds-of-spec =

@@ -1,0 +1,227 @@
+// The records that several crates read: registries, slots and the compiled program. Types only; docs/CALLS.md says what each field means.
+use config::Config;
+use config::DESTINATIONS;
+use config::SLOTS;
+use config::SOURCES;
+use table::Curve;
+
+pub const KEY_BYTES: usize = 32;
+
+// ---- sources (source.rs; document 01, Source entry)
+
+pub enum Kind {
+    Signal,
+    Audio,
+    Held,
+    Velocity,
+    Key,
+    ReleaseVelocity,
+    Random,
+    Alternate { inverse: bool },
+    RandomPerRoute,
+    VoiceLoad,
+    Constant,
+}
+
+pub enum Scope {
+    Voice,
+    Global,
+}
+
+pub enum Range {
+    Unipolar,
+    Bipolar,
+}
+
+// A source's entry. `key` has the key's bytes, then zeros; `len` is the key's length.
+pub struct Source {
+    pub key: [u8; KEY_BYTES],
+    pub len: usize,
+    pub kind: Kind,
+    pub scope: Scope,
+    pub range: Range,
+}
+
+pub struct Sources {
+    pub count: usize,
+    pub entry: [Source; SOURCES],
+}
+
+// ---- destinations (dest.rs; document 01, Destination entry)
+
+pub enum Target {
+    Param(u32),
+    LfoBus { lfo: u8, bus: u8 },
+}
+
+pub enum Rate {
+    Audio,
+    Control,
+    Adaptive,
+}
+
+pub enum Feed {
+    Nothing,
+    Source(usize),
+    Amount(usize),
+    Output(usize),
+}
+
+pub struct Dest {
+    pub target: Target,
+    pub scope: Scope,
+    pub rate: Rate,
+    pub min: f32,
+    pub max: f32,
+    pub feed: Feed,
+}
+
+pub struct Destinations {
+    pub count: usize,
+    pub entry: [Dest; DESTINATIONS],
+}
+
+// ---- slots (matrix.rs; document 01, Slot)
+
+pub enum Pick {
+    Nothing,
+    Source(usize),
+}
+
+pub enum Aim {
+    Nothing,
+    At(Target),
+}
+
+pub enum Polarity {
+    Unipolar,
+    Bipolar,
+}
+
+pub struct Slot {
+    pub source: Pick,
+    pub source_curve: Curve,
+    pub amount: f32,
+    pub polarity: Polarity,
+    pub destination: Aim,
+    pub aux: Pick,
+    pub aux_invert: bool,
+    pub aux_curve: Curve,
+    pub output: f32,
+    pub bypass: bool,
+}
+
+pub enum NoteCurve {
+    Linear,
+    Table,
+}
+
+pub struct Matrix {
+    pub slot: [Slot; SLOTS],
+    pub velocity: NoteCurve,
+    pub key: NoteCurve,
+    pub glide: bool,
+    pub velocity_legato: bool,
+}
+
+// ---- the compiled program (program.rs; document 01, Plan and route)
+
+pub enum Read {
+    Signal { source: u8, voice: bool },
+    Held { source: u8, voice: bool },
+    Fed { plan: u8, voice: bool },
+    Constant,
+    RouteRandom,
+}
+
+pub enum Slew {
+    Free,
+    Limit { up: f32, down: f32 },
+}
+
+// One input of a route. `table` says that it has a curve table, at the place of its slot and position.
+pub struct Input {
+    pub read: Read,
+    pub bipolar: bool,
+    pub table: bool,
+    pub slew: Slew,
+}
+
+pub enum Aux {
+    Missing,
+    With(Input),
+}
+
+pub enum Gain {
+    Live,
+    Fed { plan: u8, voice: bool },
+}
+
+// `scale` and `offset` are the Rust's `affine`.
+pub struct Route {
+    pub slot: u8,
+    pub source: Input,
+    pub aux: Aux,
+    pub aux_invert: bool,
+    pub bipolar: bool,
+    pub amount: Gain,
+    pub output: Gain,
+    pub voice: bool,
+    pub scale: f32,
+    pub offset: f32,
+    pub simple: bool,
+}
+
+pub enum Base {
+    Set,
+    Held(u8),
+    Amount(u8),
+    Output(u8),
+}
+
+// `first` and `count` say which routes are the plan's.
+pub struct Plan {
+    pub dest: u16,
+    pub voice: bool,
+    pub audio: bool,
+    pub min: f32,
+    pub max: f32,
+    pub base: Base,
+    pub first: usize,
+    pub count: usize,
+}
+
+pub enum Reason {
+    UnknownSource,
+    UnknownAux,
+    UnknownDestination,
+}
+
+pub struct Skipped {
+    pub slot: u8,
+    pub reason: Reason,
+}
+
+pub struct Gains {
+    pub amount: [f32; SLOTS],
+    pub output: [f32; SLOTS],
+}
+
+pub struct Program {
+    pub config: Config,
+    pub sources: usize,
+    pub dests: usize,
+    pub plans: usize,
+    pub control: usize,
+    pub routes: usize,
+    pub plan: [Plan; SLOTS],
+    pub route: [Route; SLOTS],
+    pub gains: Gains,
+    pub velocity: NoteCurve,
+    pub key: NoteCurve,
+    pub glide: bool,
+    pub velocity_legato: bool,
+    pub tabled: bool,
+    pub skips: usize,
+    pub skipped: [Skipped; SLOTS],
+}
