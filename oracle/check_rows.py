@@ -3,7 +3,8 @@
 
 1. Each number stated in rows/ is the one worked out, and no call without a number owes one.
 2. What the Rust answers agrees with the numbers worked out, where it has an answer (rows 1, 5, 7, 9 to 12), in rows/ and in N
-   random sessions (100); and making the calls of rows 1 to 5, 7 and 9 to 11 leaves the Rust as not making them.
+   random sessions (100); and making the calls of rows 1 to 5, 7 and 9 to 11 leaves the Rust as not making them. Where a
+   line `#= TEXT` has another answer than a number, the Rust panics.
 3. compare.py passes a faithful stand-in of the port (fake.py), and finds one that answers another number, accepts
    a refused call, or answers the number and makes the call all the same: each in turn, at every refused line of rows/.
    A call that was made must be found wherever it changes what the session goes on with, by outputs alone too.
@@ -31,7 +32,7 @@ bad = 0
 def silent(w):
     """Whether making the call shows nothing in the Rust's outputs: also an empty range, a signal that nobody reads, and more
     frames (which a port shows by accepting a longer range)."""
-    return w[0] in SILENT or (w[0] == "process" and int(w[1]) >= int(w[2])) or w[:2] == ["bind", "127"] or w[:3] == ["config", "42800000", "4097"]
+    return w[0] in SILENT or (w[0] == "process" and int(w[1]) >= int(w[2])) or (w[0] == "bind" and int(w[1]) >= 127) or w[:3] == ["config", "42800000", "4097"]
 
 
 def fail(*words):
@@ -46,16 +47,21 @@ def call(text, n):
 
 def rust_answers(name, text):
     """Holds the Rust's own refusals to the numbers worked out; answers how many were held."""
-    codes = owed.owed(text)
+    codes, other = owed.owed(text), owed.answers(text)
     body = "\n".join("#" if l.startswith("#=") else l for l in text.split("\n"))
     # Calls for which the Rust has no answer are left out, and destinations above 1,024.
     none = {n for n, c in codes.items() if c in (6, 8, 13, 14, 15) or (c == 12 and call(text, n).startswith("dest"))}
     out = compare.blocks(compare.run(compare.ORACLE, compare.without(body, none))[1])
-    left = compare.blocks(compare.run(compare.ORACLE, compare.without(body, codes))[1])
+    left = compare.blocks(compare.run(compare.ORACLE, compare.without(body, set(codes) | set(other)))[1])
     held = 0
     for n, printed in out.items():
-        said = [RUST[l] for l in printed if l in RUST]
         owes = codes.get(n)
+        if n in other:
+            if printed != ["PANIC"]:
+                fail(name, n, call(text, n), "the Rust", printed[:1], "not PANIC")
+            continue
+        # Asked for a voice that is not there, the Rust answers something, or panics.
+        said = [] if owes == 2 and call(text, n).startswith(QUERIES) else [RUST[l] for l in printed if l in RUST]
         if said != ([owes] if owes and (owes in (1, 7, 9, 10, 11, 12) or (owes == 5 and call(text, n).startswith("slot"))) else []):
             fail(name, n, call(text, n), "the Rust", printed[:1], "owed", owes)
         held += len(said)
@@ -78,6 +84,10 @@ def fakes(name, text):
                 fail(name, n, call(text, n), fault, "passed")
             elif d is None and code in (6, 8, 13, 14, 15) and not silent(call(text, n).split()):
                 fail(name, n, call(text, n), fault, "passed")
+    for n in owed.answers(text):
+        found["panic"] += 1
+        if compare.difference(text, codes, want, fake.answer(text, "accept", n)) is None:
+            fail(name, n, call(text, n), "the Rust's panic passed")
     return found
 
 
@@ -101,7 +111,7 @@ def main():
         held += rust_answers("seed %d" % seed, text)
     print("rows: %d sessions with %d refused calls; the Rust's own answers: %d; in %d random sessions refused: %s"
           % (len(sessions), total, held, n, " ".join("%d:%d" % x for x in sorted(numbers.items()))))
-    print("compare.py found at refused lines: another number %(code)d, accepted %(accept)d, made %(leak)d, made and seen in outputs %(quiet)d" % found)
+    print("compare.py found at refused lines: another number %(code)d, accepted %(accept)d, made %(leak)d, made and seen in outputs %(quiet)d; a panic for an answer %(panic)d" % found)
     # The command line too: the faithful stand-in passes, a wrong one does not.
     program = os.path.join(compare.HERE, "fake.py")
     path = os.path.join(compare.HERE, "rows", "06-not-finite.txt")

@@ -9,8 +9,8 @@ and prints what the oracle prints, and compares line by line under each `@LINE`.
 
 Where a call is refused PROGRAM prints `CODE n` with document 01's number and nothing
 else. Which call owes which number is worked out from the session (owed.py); where a line
-`#= CODE n` states it too, both must agree. The oracle is given the session without the
-refused calls. So a `CODE` line is compared with what is owed and not with the Rust, and
+`#= CODE n` states it too, both must agree. Any other line `#= TEXT` has what PROGRAM prints
+where the Rust panics. The oracle is given the session without these calls. So a `CODE` line is compared with what is owed and not with the Rust, and
 everything printed afterwards is that of an engine that never saw the refused call.
 
 The Rust's own buffer offsets (PLAN at, out; ROUTE curve, slew, fed and rnd offsets;
@@ -80,7 +80,7 @@ def run(binary, text):
 
 def difference(text, refused, want, got, only=None):
     """The first line at which PROGRAM's output is not what is owed: number, line, what is owed, what it printed."""
-    a, b, said = blocks(want), blocks(got), owed.stated(text)
+    a, b, said, other = blocks(want), blocks(got), owed.stated(text), owed.answers(text)
     for n, line in enumerate(text.split("\n"), 1):
         w = line.split()
         if not w or w[0].startswith("#"):
@@ -88,7 +88,7 @@ def difference(text, refused, want, got, only=None):
         row = refused.get(n)
         if n in said and said[n] != row:
             return n, line, ["stated CODE %d" % said[n]], ["worked out %s" % row]
-        x, y = ["CODE %d" % row] if row else a.get(n, []), b.get(n, [])
+        x, y = ["CODE %d" % row] if row else [other[n]] if n in other else a.get(n, []), b.get(n, [])
         if (only and w[0] not in only) or (w[0] in ("state", "memory") and not y):
             continue
         if x != y:

@@ -1,5 +1,6 @@
 #!/usr/bin/env python3
-"""A stand-in for the port, to test compare.py: the oracle, answering `CODE n` where a line `#= CODE n` says so.
+"""A stand-in for the port, to test compare.py: the oracle, answering `CODE n` where a line `#= CODE n` says so, and the
+text of any other line `#= TEXT`.
 
 FAKE in the environment makes it wrong at one line: `code LINE` answers another number, `accept LINE` makes the call
 and prints its result, `leak LINE` answers the number although the call was made. `quiet LINE` is `leak`, without
@@ -13,8 +14,8 @@ import owed
 
 
 def answer(text, fault="", line=0):
-    codes = {**owed.owed(text), **owed.stated(text)}
-    refused = set(codes) - ({line} if fault in ("accept", "leak", "quiet") else set())
+    codes, other = {**owed.owed(text), **owed.stated(text)}, owed.answers(text)
+    refused = (set(codes) | set(other)) - ({line} if fault in ("accept", "leak", "quiet") else set())
     body = "\n".join("#" if l.startswith("#=") else l for l in text.split("\n"))
     _, out = compare.run(compare.ORACLE, compare.without(body, refused))
     printed, at = {}, 0
@@ -24,10 +25,8 @@ def answer(text, fault="", line=0):
             printed[at] = []
         elif l:
             printed.setdefault(at, []).append(l)
-    if fault != "accept":
-        printed.update({n: ["CODE %d" % (c + (fault == "code" and n == line))] for n, c in codes.items()})
-    else:
-        printed.update({n: ["CODE %d" % c] for n, c in codes.items() if n != line})
+    said = {**{n: "CODE %d" % (c + (fault == "code" and n == line)) for n, c in codes.items()}, **other}
+    printed.update({n: [x] for n, x in said.items() if not (fault == "accept" and n == line)})
     lines = text.split("\n")
     result = []
     for n in sorted(printed):

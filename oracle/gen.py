@@ -795,7 +795,10 @@ def with_refused(seed, text):
         lambda: ["slot %d src=0 amt=%s" % (r.randrange(65), nan())],
         lambda: ["bind %d %d hex 3F800000" % (r.randrange(3), r.choice([257, 1000]))],
         lambda: ["memory_len %s need-1" % (m := r.choice(["values", "audio"])), "process 0 0", "process 0 %d" % r.choice([0, 1, 5000]), "out", "memory_len %s all" % m],
-        lambda: ["memory_len engine need-1", "set_held 0 3F000000", "set_base 0 3F000000", "note_on 0 42700000 3F800000 0 00000000", "voice_ended 0", "memory_len engine all"],
+        lambda: ["memory_len %s need-1" % (m := r.choice(["engine", "held", "globals", "bases"])), "set_held 0 3F000000", "set_voice_held 0 0 3F000000", "set_base 0 3F000000",
+                 "note_on 0 42700000 3F800000 0 00000000", "note_off 0 3F000000", "voice_ended 0", "process 0 1", "memory_len %s all" % m],
+        lambda: ["memory_len tables need-1", "note_on 0 42700000 3F800000 0 00000000", "process 0 1", "memory_len tables all"],
+        lambda: ["memory_len %s need-1" % (m := r.choice(["values", "audio", "out"])), "latest 0 0", "ramp 0 0", "memory_len %s all" % m],
     ]
     lines, out, judge = text.rstrip("\n").split("\n"), [], owed.Owed()
     for line in lines:

@@ -1,8 +1,8 @@
 """The number that each call of a session owes by document 01's table, worked out from the session alone.
 
 Owed().line(words) answers the number, or None where the call is accepted, and then takes the call's
-effect on what later numbers depend on: registries, tables, slots, programs, lengths lent. README.md says
-what a line is lent and which rows are judged for it, in which order.
+effect on what later numbers depend on: registries, tables, slots, programs, lengths lent. docs/CALLS.md
+decides; README.md says which calls a line stands for and which rows are judged for it, in which order.
 """
 import struct
 
@@ -52,166 +52,200 @@ def table(spec):
     return [True] * 513
 
 
+def key_of(word):
+    """A key's bytes."""
+    return b"" if word == "~" else word.encode()
+
+
+def curves_of(fields):
+    """Position (0 source, 1 aux) to table name and seconds, for the curves of a slot's fields that are tables."""
+    pairs = [f.partition("=")[::2] for f in fields]
+    return {("sc", "ac").index(k): x.split(":") for k, x in pairs if k in ("sc", "ac") and x != "lin"}
+
+
+def stride(config):
+    return max(1, -(-config[2] // 16)) * 16
+
+
+def first(*rows):
+    """The first number whose row applies."""
+    return next((n for n, applies in rows if applies), None)
+
+
+TABLES = 130 * 513                                  # the numbers of a table memory
+
+# What each call is lent (docs/CALLS.md, Which call a short memory refuses).
+LENT = {
+    "slot": ["matrix_tables"],
+    "note": ["matrix_tables"],
+    "compile": ["matrix_tables", "values", "audio", "tables"],
+    "engine": ["held", "globals", "bases"],
+    "set_held": ["held", "globals"],
+    "set_voice_held": ["held"],
+    "set_base": ["bases"],
+    "note_on": ["held", "tables"],
+    "note_off": ["held"],
+    "voice_ended": ["held"],
+    "process": ["held", "globals", "bases", "values", "audio", "tables"],
+    "out": ["values", "audio"],
+    "latest": ["values", "audio"],
+    "latest_all": ["values", "audio"],
+    "ramp": ["values", "out"],
+}
+
+
 class Owed:
     def __init__(self):
         self.config = ("473B8000", 64, 1)
         self.sources, self.dests = [], []           # keys; targets
         self.tables = {"diag": [True] * 513}
         self.slots, self.note = {}, ["diag", "diag"]
+        self.wrong = set()                          # places in the matrix's tables of numbers that row 6 refuses
         self.programs, self.installed = {}, "~"
         self.engine = None                          # config, sources, destinations
+        self.frames = 0                             # of the last block's chunks
         self.lent = {}
         self.parts = {}                             # signal_part: at, length, stride
 
-    # What is lent -----------------------------------------------------------------
-    def short(self, what, needed):
-        """Whether the memory is shorter than the need, which is 0 unless `needed`."""
-        return needed and self.lent.get(what) in ("0", "need-1")
+    # What is needed, by docs/CALLS.md, Memories -------------------------------------
+    def engine_needs(self, config, sources, dests):
+        return {"held": stride(config) * sources, "globals": sources, "bases": dests}
+
+    def program_needs(self, config, plans, routes, tabled):
+        s, chunks = stride(config), config[1] // 32 + 2
+        return {"values": s * (plans * (2 * chunks + 6) + 8 * routes), "audio": s * plans * config[1],
+                "tables": TABLES if tabled else 0}
+
+    def length(self, what, need):
+        """How many numbers of a memory are lent; `all` is at least a whole table memory."""
+        x = self.lent.get(what, "all")
+        return max(need, TABLES) if x == "all" else need if x == "need" else max(0, need - 1) if x == "need-1" else int(x)
+
+    def short(self, call, needs):
+        return any(self.length(what, needs[what]) < needs[what] for what in LENT[call])
 
     def program(self):
         return self.programs[self.installed]
 
-    def engine_short(self):
-        return self.short("engine", self.engine[1] + self.engine[2] > 0)
-
-    def values_short(self, p):
-        return self.short("values", p["routes"] > 0) or self.short("audio", p["routes"] > 0 and p["config"][1] > 0)
-
-    def tables_short(self, p):
-        return self.short("tables", p["tables"] > 0)
-
     def outside(self):
-        """Whether some signal's part is not inside the slice; `end` is the slice's length."""
-        def place(x):
-            return (1, int(x[4:] or 0)) if x.startswith("end") else (0, int(x))
-        for at, length, _ in self.parts.values():
-            (a, i), (n, j) = place(at), place(length)
-            if (a + n, i + j) > (1, 0) or i + j >= 1 << 63:
-                return True
-        return False
+        """Whether some signal's part is not inside the samples. A session does not say how many samples are lent, so
+        a part that is inside for some length of them and outside for another is a mistake in the session."""
+        def at_length(samples):
+            def place(x):
+                return samples + int(x[4:] or 0) if x.startswith("end") else int(x)
+            return any(place(at) > samples or place(n) > samples - place(at) for at, n, _ in self.parts.values())
+        if at_length(0) != at_length(1 << 40):
+            raise ValueError("a signal_part that the session does not decide")
+        return at_length(0)
 
     # The rows ---------------------------------------------------------------------
-    def curves(self, fields):
-        """The tables and seconds that a slot's fields name."""
-        for f in fields:
-            k, _, x = f.partition("=")
-            if k in ("sc", "ac") and x != "lin":
-                yield x.split(":")
-
-    def row_tables(self, names):
-        if not all(all(self.tables[n]) for n in names):
-            return 6
-        return 15 if any(len(self.tables[n]) != 513 for n in names) else None
+    def row_tables(self, call, names):
+        """Setting the tables of a slot, or of the notes."""
+        return first((6, not all(all(self.tables[n]) for n in names)),
+                     (14, names and self.short(call, {"matrix_tables": TABLES})),
+                     (15, any(len(self.tables[n]) != 513 for n in names)))
 
     def row_slot(self, n, fields):
-        if n > 63:
-            return 5
-        pairs = dict(f.partition("=")[::2] for f in fields)
-        seconds = [s for c in self.curves(fields) for s in c[1:]]
-        if not all(map(finite, [x for k, x in pairs.items() if k in ("amt", "out")] + seconds)):
-            return 6
-        return self.row_tables([c[0] for c in self.curves(fields)])
+        curves = list(curves_of(fields).values())
+        numbers = [x for f in fields for k, _, x in [f.partition("=")] if k in ("amt", "out")]
+        return first((5, n > 63),
+                     (6, not all(map(finite, numbers + [s for c in curves for s in c[1:]])))) \
+            or self.row_tables("slot", [c[0] for c in curves])
+
+    def row_compile(self):
+        needs = self.compiled()["needs"]
+        needs["matrix_tables"] = needs["tables"]
+        reach, named = self.length("matrix_tables", needs["tables"]), self.named()
+        return first((6, any(i < reach and i // 513 in named for i in self.wrong)), (14, self.short("compile", needs)))
 
     def row_dest(self, w):
-        low, high, feed = number(w[4]), number(w[5]), w[6]
-        if w[1] in self.dests:
-            return 9
-        if not low < high:
-            return 10
-        if feed[:3] in ("amt", "out") and int(feed[4:]) > 63:
-            return 11
-        return 12 if len(self.dests) >= 1024 else None
+        feed = w[6]
+        return first((9, w[1] in self.dests), (10, not number(w[4]) < number(w[5])),
+                     (11, feed[:3] in ("amt", "out") and int(feed[4:]) > 63), (12, len(self.dests) >= 1024))
 
     def row_swap(self, p):
         a, b = p["config"], self.engine[0]
-        if (number(a[0]),) + a[1:] != (number(b[0]),) + b[1:]:
-            return 7
-        return 8 if p["routes"] and (p["sources"] > self.engine[1] or p["dests"] > self.engine[2]) else None
-
-    def row_process(self, end):
-        p = self.program()
-        if end > self.engine[0][1]:
-            return 1
-        if any(s > 256 for _, _, s in self.parts.values()):
-            return 13
-        return 14 if self.values_short(p) or self.tables_short(p) or self.engine_short() or self.outside() else None
+        return first((7, (number(a[0]),) + a[1:] != (number(b[0]),) + b[1:]),
+                     (8, p["routes"] and (p["sources"] > self.engine[1] or p["dests"] > self.engine[2])))
 
     def row(self, w):
+        """The rows of a line before there need be an engine; the others are the engine's."""
         c = w[0]
         if c == "config":
-            return 6 if not finite(w[1]) else 13 if number(w[1]) <= 0 or int(w[2]) > 4096 or int(w[3]) > 64 else None
-        if c in ("source", "find"):
-            key = "" if w[1] == "~" else w[1]
-            if c == "source" and key in self.sources:
-                return 9
-            if c == "source" and len(self.sources) >= 128:
-                return 12
-            return 15 if len(key) > 32 else None
+            return first((6, not finite(w[1])), (13, number(w[1]) <= 0 or int(w[2]) > 4096 or int(w[3]) > 64))
+        if c == "source":
+            return first((9, key_of(w[1]) in self.sources), (12, len(self.sources) >= 128), (15, len(key_of(w[1])) > 32))
+        if c == "find":
+            return first((15, len(key_of(w[1])) > 32))
         if c == "dest":
             return self.row_dest(w)
         if c == "slot":
             return self.row_slot(int(w[1]), w[2:])
         if c == "note":
-            return self.row_tables(w[1:3])
+            return self.row_tables(c, [n for n in w[1:3] if n != "diag"])
         if c == "compile":
-            p = self.compiled()
-            return 14 if self.values_short(p) or self.tables_short(p) else None
+            return self.row_compile()
         if c == "engine":
-            return 14 if self.short("engine", len(self.sources) + len(self.dests) > 0) else None
+            return first((14, self.short(c, self.engine_needs(self.config, len(self.sources), len(self.dests)))))
         if c == "bind":
-            return 13 if int(w[2]) > 256 else None
-        if self.engine is None:
-            return None
-        _, frames, voices = self.engine[0]
-        stride = max(1, (voices + 15) // 16) * 16
-        last = 14 if self.engine_short() else None
+            return first((13, int(w[2]) > 256))
+        return None if self.engine is None else self.row_engine(c, w)
+
+    def row_engine(self, c, w):
+        (_, frames, voices), sources, dests = self.engine
+        needs = {**self.engine_needs(*self.engine), **self.program()["needs"], "out": self.frames}
+        short = c in LENT and self.short(c, needs)
         if c == "set_held":
-            return 3 if int(w[1]) >= self.engine[1] else 6 if not finite(w[2]) else last
+            return first((3, int(w[1]) >= sources), (6, not finite(w[2])), (14, short))
         if c == "set_voice_held":
-            return 2 if int(w[2]) >= stride else 3 if int(w[1]) >= self.engine[1] else 6 if not finite(w[3]) else last
+            return first((2, int(w[2]) >= stride(self.engine[0])), (3, int(w[1]) >= sources), (6, not finite(w[3])), (14, short))
         if c == "set_base":
-            return 4 if int(w[1]) >= self.engine[2] else 6 if not finite(w[2]) else last
+            return first((4, int(w[1]) >= dests), (6, not finite(w[2])), (14, short))
         if c in ("set_amount", "set_output"):
-            return 5 if int(w[1]) > 63 else 6 if not finite(w[2]) else None
+            return first((5, int(w[1]) > 63), (6, not finite(w[2])))
         if c == "note_on":
-            short = 14 if self.tables_short(self.program()) else last
-            return 2 if int(w[1]) >= voices else 6 if not all(map(finite, (w[2], w[3], w[5]))) else short
+            return first((2, int(w[1]) >= voices), (6, not all(map(finite, (w[2], w[3], w[5])))), (14, short))
         if c == "note_off":
-            return 2 if int(w[1]) >= voices else 6 if not finite(w[2]) else last
+            return first((2, int(w[1]) >= voices), (6, not finite(w[2])), (14, short))
         if c == "voice_ended":
-            return 2 if int(w[1]) >= voices else last
+            return first((2, int(w[1]) >= voices), (14, short))
         if c == "is_active":
-            return 2 if int(w[1]) >= voices else None
+            return first((2, int(w[1]) >= voices))
         if c == "swap":
             return self.row_swap(self.programs[w[1]])
         if c == "process":
-            return self.row_process(int(w[2]))
+            return first((1, int(w[2]) > frames), (13, any(s > 256 for _, _, s in self.parts.values())), (14, short or self.outside()))
         if c == "out":
-            return 14 if self.values_short(self.program()) else None
+            return first((14, short))
         if c in ("latest", "ramp"):
-            short = self.values_short(self.program()) or (c == "ramp" and self.short("out", True))
-            return 2 if int(w[2]) >= voices else 14 if short else None
+            return first((2, int(w[2]) >= voices), (14, short))
         if c == "latest_all":
-            return 14 if self.values_short(self.program()) or (int(w[1]) and int(w[2]) < self.program()["dests"]) else None
+            return first((14, short or int(w[1]) * int(w[2]) < int(w[1]) * self.program()["dests"]))
         return None
 
     # Effects ----------------------------------------------------------------------
+    def named(self):
+        """The places of the matrix's tables that a curve names, of a slot that is empty or bypassed too."""
+        slots = {2 * n + p for n, f in self.slots.items() for p in curves_of(f)}
+        return slots | {128 + i for i, n in enumerate(self.note) if n != "diag"}
+
     def compiled(self):
-        routes, used = 0, len([n for n in self.note if n != "diag"])
+        routes, used = 0, set()
         for f in self.slots.values():
             d = dict(x.partition("=")[::2] for x in f)
             known = [int(d[k]) < len(self.sources) for k in ("src", "aux") if d.get(k, "-") != "-"]
             if d.get("src", "-") != "-" and all(known) and d.get("dst") in self.dests and d.get("byp") != "1":
                 routes += 1
-                used += len(list(self.curves(f)))
-        return {"config": self.config, "sources": len(self.sources), "dests": len(self.dests), "routes": routes, "tables": used}
+                used.add(d["dst"])
+        return {"config": self.config, "sources": len(self.sources), "dests": len(self.dests), "routes": routes,
+                "needs": self.program_needs(self.config, len(used), routes, self.named())}
 
     def effect(self, w):
         c = w[0]
         if c == "config":
             self.config = (w[1], int(w[2]), int(w[3]))
         elif c == "source":
-            self.sources.append("" if w[1] == "~" else w[1])
+            self.sources.append(key_of(w[1]))
         elif c == "dest":
             self.dests.append(w[1])
         elif c == "newreg":
@@ -220,20 +254,36 @@ class Owed:
             self.tables[w[1]] = table(w[2:])
         elif c == "slot":
             self.slots[int(w[1])] = w[2:]
+            self.rewritten({2 * int(w[1]) + p for p in curves_of(w[2:])})
         elif c == "note":
             self.note = w[1:3]
+            self.rewritten({128 + i for i, n in enumerate(self.note) if n != "diag"})
         elif c == "clear":
             self.slots, self.note = {}, ["diag", "diag"]
         elif c == "compile":
             self.programs[w[1]] = self.compiled()
         elif c == "engine":
-            self.engine = (self.config, len(self.sources), len(self.dests))
-            self.programs["~"] = {"config": self.config, "sources": 0, "dests": 0, "routes": 0, "tables": 0}
+            self.engine, self.frames = (self.config, len(self.sources), len(self.dests)), 0
+            self.programs["~"] = {"config": self.config, "sources": 0, "dests": 0, "routes": 0,
+                                  "needs": self.program_needs(self.config, 0, 0, False)}
             self.installed = "~"
         elif c == "swap":
             self.installed = w[1]
-        elif c == "memory_len":
-            self.lent[w[1]] = w[2]
+        elif c == "process" and int(w[1]) < int(w[2]):
+            self.frames = int(w[2]) - int(w[1]) if self.program()["routes"] else 0
+        else:
+            self.lending(c, w)
+
+    def rewritten(self, places):
+        self.wrong = {i for i in self.wrong if i // 513 not in places}
+
+    def lending(self, c, w):
+        """Lines that change what is lent."""
+        if c == "memory_len":
+            for what in ("held", "globals", "bases") if w[1] == "engine" else w[1:2]:
+                self.lent[what] = w[2]
+        elif c == "matrix_put":
+            (self.wrong.discard if in_table(w[3]) else self.wrong.add)(int(w[1]) * 513 + int(w[2]))
         elif c == "signal_part":
             self.parts[w[1]] = (w[2], w[3], int(w[4]))
         elif c == "bind":
@@ -260,7 +310,16 @@ def owed(text):
     return out
 
 
+def above(text):
+    """Line number to the words of a line `#= ...` directly above."""
+    return {n + 2: l.split()[1:] for n, l in enumerate(text.split("\n")) if l.startswith("#= ")}
+
+
 def stated(text):
     """Line number to the number that a line `#= CODE n` directly above states."""
-    lines = text.split("\n")
-    return {n + 2: int(l.split()[2]) for n, l in enumerate(lines) if l.startswith("#= CODE ")}
+    return {n: int(w[1]) for n, w in above(text).items() if w[0] == "CODE"}
+
+
+def answers(text):
+    """Line number to what the port prints, by any other line `#= ...` directly above: an accepted call at which the Rust panics."""
+    return {n: " ".join(w) for n, w in above(text).items() if w[0] != "CODE"}

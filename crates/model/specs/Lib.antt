@@ -1,1 +1,7 @@
 pub mod Cases
+pub mod Wiring
+pub mod Feeds
+pub mod Routes
+pub mod Plans
+pub mod Need
+mod CompiledExamples

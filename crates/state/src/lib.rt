@@ -1,4 +1,6 @@
-// The records that several crates read: registries, slots and the compiled program. Types only; docs/CALLS.md says what each field means.
+// The records that several crates read: registries, slots and the compiled program; docs/CALLS.md says what each field means.
+ghost use mathlib.Core.Path.{_≡_};
+ghost use Rattle.state.specs.Registry.{sameTarget};
 use config::Config;
 use config::DESTINATIONS;
 use config::SLOTS;
@@ -52,6 +54,22 @@ pub struct Sources {
 pub enum Target {
     Param(u32),
     LfoBus { lfo: u8, bus: u8 },
+}
+
+// Whether two targets are the same parameter, or the same bus of the same LFO.
+pub fn same_target(a: Target, b: Target) -> bool
+    ensures { λ r. ⌜ r ≡ sameTarget a b ⌝ }
+{
+    match a {
+        Target::Param(m) => match b {
+            Target::Param(n) => m == n,
+            Target::LfoBus { lfo: _, bus: _ } => false,
+        },
+        Target::LfoBus { lfo, bus } => match b {
+            Target::Param(_) => false,
+            Target::LfoBus { lfo: l, bus: u } => lfo == l && bus == u,
+        },
+    }
 }
 
 pub enum Rate {

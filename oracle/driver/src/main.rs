@@ -85,6 +85,8 @@ struct Session {
     installed: String,
     engine: Option<Engine>,
     bound: BTreeMap<u16, (usize, Vec<f32>)>,
+    /// How many numbers `ramp` is lent: `memory_len out`.
+    out_len: String,
     show: Show,
     canon: bool,
 }
@@ -186,6 +188,7 @@ impl Session {
             installed: "~".to_owned(),
             engine: None,
             bound: BTreeMap::new(),
+            out_len: "all".to_owned(),
             show: Show::Full,
             canon: false,
         }
@@ -507,8 +510,9 @@ impl Session {
                     None => writeln!(self.out, "FIND none"),
                 };
             }
-            // Only the port is lent memory.
-            ["memory_len", _, _] | ["signal_part", _, _, _, _] => {}
+            // Only the port is lent memory, but for what a ramp fills.
+            ["memory_len", "out", len] => self.out_len = (*len).to_owned(),
+            ["memory_len", _, _] | ["matrix_put", _, _, _] | ["signal_part", _, _, _, _] => {}
             ["newreg"] => {
                 self.sources = Sources::new();
                 self.dests = Destinations::new();
@@ -630,12 +634,19 @@ impl Session {
             ["out", start, end] => self.outputs(int(start)?..int(end)?)?,
             ["ramp", d, v] => {
                 let (id, v) = (DestId(int(d)?), int(v)?);
+                let len = self.out_len.clone();
                 let e = self.engine()?;
                 let row = match e.output(id) {
                     Output::Control(c) => {
-                        let n = c.chunks().iter().map(|k| k.len).sum();
-                        let mut row = vec![0.0; n];
+                        let n: usize = c.chunks().iter().map(|k| k.len).sum();
+                        let lent = match len.as_str() {
+                            "all" | "need" => n,
+                            "need-1" => n.saturating_sub(1),
+                            x => int(x)?,
+                        };
+                        let mut row = vec![0.0; lent];
                         c.ramp(v, &mut row);
+                        row.truncate(n);
                         Some(row)
                     }
                     _ => None,
@@ -737,7 +748,7 @@ fn main() {
     let mut s = Session::new();
     let mut stdout = std::io::stdout().lock();
     let mut code = 0;
-    // Whether the line above says that the port refuses this call.
+    // Whether the line above says what the port answers in place of the Rust.
     let mut owed = false;
     for (n, line) in text.lines().enumerate() {
         let words: Vec<&str> = line.split_whitespace().collect();

@@ -1,0 +1,75 @@
+-- `dest::find` meets its contract. The loop's invariant: what the registry holds of the target is what is found from entry i on.
+-- The measure is what is left of the registered entries.
+use mathlib.Core.Path.{_≡_, sym, _∙_}
+use Prim.Native.Nat.{_≤_, _-_}
+use native.Mathlib.Omega.{arith}
+use borrow.Author.Needs.{needs}
+use lib.ListN.{length}
+use Rattle.dest.proofs.Search.{length-mapped, unread, SearchedTo, searched-none, searched-here, searched-next, searched-all}
+use Rattle.dest.proofs.find.Statement.{statement}
+use Rattle.dest.proofs.find.Tie as tie
+
+abbrev Inv-loop : tie.InvT-loop
+Inv-loop target dests n i₀ i = (i ≤ n) × SearchedTo dests target i
+
+abbrev μ-loop : tie.MeasureT-loop
+μ-loop target dests n i₀ i = n - i
+
+len-requires : tie.Need-len-requires Inv-loop μ-loop
+len-requires c κs = search needs
+
+loop-holds : tie.Need-loop-holds Inv-loop μ-loop
+loop-holds c = (search needs, searched-none _ _)
+
+mul-e : tie.Need-mul-e Inv-loop μ-loop
+mul-e c = search needs
+
+element-copy-out-e : tie.Need-element-copy-out-e Inv-loop μ-loop
+element-copy-out-e c = search needs
+
+same-target-requires : tie.Need-same-target-requires Inv-loop μ-loop
+same-target-requires c κs = search needs
+
+returns : tie.Need-returns Inv-loop μ-loop
+returns c =
+    let l = c .before .before .before .before .loop in
+    let ds = c .before .before .before .before .before .before .args .t1 in
+    let e : length (ds .entry) ≡ 1024 = search (needs, length-mapped) in
+    sym (searched-here ds _ (l .i) unread e (l .inv .1) (omega arith) (sym (c .before .same-target .ensures) ∙ c .if1 .taken))
+
+add-i : tie.Need-add-i Inv-loop μ-loop
+add-i c = search needs
+
+loop-less : tie.Need-loop-less Inv-loop μ-loop
+loop-less c = search needs
+
+loop-again : tie.Need-loop-again Inv-loop μ-loop
+loop-again c =
+    let l = c .before .before .before .before .loop in
+    let ds = c .before .before .before .before .before .before .args .t1 in
+    let e : length (ds .entry) ≡ 1024 = search (needs, length-mapped) in
+    (search needs, searched-next ds _ (l .i) unread e (l .inv .1) (omega arith) (sym (c .before .same-target .ensures) ∙ c .if1 .left))
+
+returns-2 : tie.Need-returns-2 Inv-loop μ-loop
+returns-2 c =
+    let l = c .before .loop in
+    let ds = c .before .before .before .args .t1 in
+    let e : length (ds .entry) ≡ 1024 = search (needs, length-mapped) in
+    sym (searched-all ds _ (l .i) unread e (l .inv .1) (omega arith))
+
+pub find-spec : {M : Type 1} → statement M
+find-spec =
+    tie.close
+    (tie.spec
+    Inv-loop
+    μ-loop
+    len-requires
+    loop-holds
+    mul-e
+    element-copy-out-e
+    same-target-requires
+    returns
+    add-i
+    loop-less
+    loop-again
+    returns-2)

@@ -1,0 +1,17 @@
+pub mod Tests
+pub mod Count
+pub mod Keep
+pub mod Index
+pub mod Fed
+pub mod Next
+pub mod Placed
+pub mod Ordered
+pub mod Ring
+pub mod Acyclic
+pub mod Renamed
+pub mod Place
+pub mod Rule
+pub mod Unplaced
+pub mod Turn
+pub mod Examples
+pub mod Planned

@@ -1,0 +1,4 @@
+pub mod Keys
+pub mod Registry
+pub mod Info
+pub mod Examples
