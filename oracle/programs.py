@@ -5,7 +5,7 @@ Writes examples for the definition of compiling (crates/model/specs/CompiledExam
 FILE): each program that the sessions in cases/ compile, and those of a few random sessions
 with small registries, with the plans, the routes and the slots left out as the Rust compiles
 them. A random one is taken if it shows a kind of plan or route that none before it shows. The
-checker computes the definitions on each and compares. Needs target/release/oracle.
+checker computes the definitions on each and compares. Needs target/release/oracle; `rt fmt` lays the file out.
 """
 import os
 import re

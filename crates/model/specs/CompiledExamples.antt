@@ -686,178 +686,178 @@ p38 : Compiles w38
 unfolding w38 targetPlace verdict candidatesFrom skippedFrom candidates skippedOf inUse countedFeed feederOf reads hearsAudio isAudio controls audios planOrder planPlace readOf slewFor inputOf routeOf routesInto planOf plansOf allRoutes order secondsOf ratePerSample max32 isNan lt eq mul div
 p38 = (refl, refl, refl, refl)
 
--- gen.py 1
+-- cases/t27-signal-of-no-source.txt
 w39 : Wiring
 w39 =
+    wired (fin false 1 (pos 6))
+    (source (K.Signal) S.Global R.Unipolar ∷ source (K.Signal) S.Voice R.Bipolar ∷ [])
+    (record { target = (A.Param 0); scope = S.Global; rate = T.Control; min = (inf true); max = (inf false); feed = F.Nothing } ∷ record { target = (A.Param 1); scope = S.Voice; rate = T.Audio; min = (inf true); max = (inf false); feed = F.Nothing } ∷ [])
+    (record { source = P.Source 0; «source_curve» = C.Linear; amount = (fin false 1 (pos 0)); polarity = Q.Unipolar; destination = M.At (A.Param 0); aux = P.Nothing; «aux_invert» = false; «aux_curve» = C.Linear; output = (fin false 1 (pos 0)); bypass = false } ∷ record { source = P.Source 1; «source_curve» = C.Linear; amount = (fin false 1 (pos 0)); polarity = Q.Unipolar; destination = M.At (A.Param 1); aux = P.Nothing; «aux_invert» = false; «aux_curve» = C.Linear; output = (fin false 1 (pos 0)); bypass = false } ∷ record { source = P.Source 128; «source_curve» = C.Linear; amount = (fin false 1 (pos 0)); polarity = Q.Unipolar; destination = M.At (A.Param 0); aux = P.Nothing; «aux_invert» = false; «aux_curve» = C.Linear; output = (fin false 1 (pos 0)); bypass = false } ∷ [])
+
+p39 : Compiles w39
+    (record { dest = 0; voice = false; audio = false; min = (inf true); max = (inf false); base = B.Set; first = 0; count = 1 } ∷ record { dest = 1; voice = true; audio = true; min = (inf true); max = (inf false); base = B.Set; first = 1; count = 1 } ∷ [])
+    1
+    (record { slot = 0; source = record { read = D.Signal 0 false; bipolar = false; table = false; slew = L.Free }; aux = X.Missing; «aux_invert» = false; bipolar = false; amount = G.Live; output = G.Live; voice = false; scale = (fin false 1 (pos 0)); offset = (fin false 0 (pos 0)); simple = false } ∷ record { slot = 1; source = record { read = D.Signal 1 true; bipolar = true; table = false; slew = L.Free }; aux = X.Missing; «aux_invert» = false; bipolar = false; amount = G.Live; output = G.Live; voice = true; scale = (fin false 1 (negsuc 0)); offset = (fin false 1 (negsuc 0)); simple = true } ∷ [])
+    (record { slot = 2; reason = E.UnknownSource } ∷ [])
+unfolding w39 targetPlace verdict candidatesFrom skippedFrom candidates skippedOf inUse countedFeed feederOf reads hearsAudio isAudio controls audios planOrder planPlace readOf slewFor inputOf routeOf routesInto planOf plansOf allRoutes order secondsOf ratePerSample max32 isNan lt eq mul div
+p39 = (refl, refl, refl, refl)
+
+-- gen.py 1
+w40 : Wiring
+w40 =
     wired (fin false 4870175 (negsuc 5))
     (source (K.Key) S.Voice R.Unipolar ∷ source (K.ReleaseVelocity) S.Global R.Unipolar ∷ source (K.Random) S.Voice R.Unipolar ∷ source (K.Velocity) S.Voice R.Unipolar ∷ source (K.Constant) S.Global R.Unipolar ∷ source (K.VoiceLoad) S.Global R.Unipolar ∷ source (K.Audio) S.Voice R.Bipolar ∷ source (K.Velocity) S.Voice R.Unipolar ∷ source (K.Signal) S.Global R.Unipolar ∷ source (K.Key) S.Voice R.Unipolar ∷ source (K.ReleaseVelocity) S.Voice R.Unipolar ∷ source (K.Alternate false) S.Voice R.Unipolar ∷ source (K.Held) S.Voice R.Unipolar ∷ source (K.RandomPerRoute) S.Voice R.Unipolar ∷ source (K.Signal) S.Voice R.Unipolar ∷ source (K.RandomPerRoute) S.Voice R.Unipolar ∷ source (K.Key) S.Voice R.Unipolar ∷ source (K.RandomPerRoute) S.Voice R.Unipolar ∷ source (K.Signal) S.Voice R.Unipolar ∷ source (K.Held) S.Global R.Unipolar ∷ source (K.RandomPerRoute) S.Voice R.Bipolar ∷ source (K.Signal) S.Voice R.Unipolar ∷ source (K.Signal) S.Voice R.Unipolar ∷ source (K.Signal) S.Voice R.Unipolar ∷ source (K.Alternate false) S.Voice R.Unipolar ∷ source (K.Signal) S.Voice R.Unipolar ∷ source (K.Audio) S.Voice R.Bipolar ∷ source (K.Held) S.Voice R.Bipolar ∷ source (K.Velocity) S.Voice R.Unipolar ∷ source (K.Signal) S.Voice R.Unipolar ∷ source (K.Velocity) S.Voice R.Unipolar ∷ source (K.Key) S.Voice R.Unipolar ∷ source (K.Signal) S.Voice R.Unipolar ∷ source (K.Held) S.Global R.Unipolar ∷ source (K.Held) S.Global R.Unipolar ∷ source (K.Alternate false) S.Voice R.Unipolar ∷ source (K.RandomPerRoute) S.Voice R.Bipolar ∷ source (K.VoiceLoad) S.Global R.Unipolar ∷ source (K.Held) S.Voice R.Unipolar ∷ source (K.Key) S.Voice R.Unipolar ∷ source (K.Velocity) S.Global R.Unipolar ∷ source (K.Audio) S.Voice R.Bipolar ∷ source (K.Audio) S.Voice R.Bipolar ∷ source (K.VoiceLoad) S.Global R.Unipolar ∷ source (K.Random) S.Voice R.Unipolar ∷ source (K.Audio) S.Voice R.Unipolar ∷ source (K.Signal) S.Voice R.Bipolar ∷ source (K.Key) S.Voice R.Unipolar ∷ source (K.Held) S.Global R.Unipolar ∷ source (K.Held) S.Global R.Unipolar ∷ source (K.Alternate true) S.Voice R.Unipolar ∷ source (K.Key) S.Voice R.Unipolar ∷ source (K.Key) S.Voice R.Bipolar ∷ source (K.Held) S.Voice R.Unipolar ∷ source (K.Audio) S.Voice R.Bipolar ∷ source (K.Signal) S.Voice R.Unipolar ∷ source (K.RandomPerRoute) S.Voice R.Bipolar ∷ source (K.Signal) S.Voice R.Unipolar ∷ source (K.Held) S.Global R.Unipolar ∷ source (K.Velocity) S.Voice R.Unipolar ∷ source (K.Random) S.Voice R.Bipolar ∷ source (K.Signal) S.Global R.Unipolar ∷ source (K.Held) S.Global R.Bipolar ∷ source (K.Constant) S.Global R.Unipolar ∷ source (K.Alternate true) S.Voice R.Unipolar ∷ source (K.VoiceLoad) S.Global R.Unipolar ∷ source (K.Signal) S.Voice R.Unipolar ∷ source (K.RandomPerRoute) S.Global R.Bipolar ∷ source (K.Constant) S.Global R.Unipolar ∷ source (K.Held) S.Global R.Unipolar ∷ source (K.Velocity) S.Voice R.Unipolar ∷ source (K.Audio) S.Voice R.Bipolar ∷ source (K.Audio) S.Voice R.Bipolar ∷ source (K.Signal) S.Global R.Unipolar ∷ source (K.RandomPerRoute) S.Voice R.Unipolar ∷ source (K.Alternate true) S.Voice R.Unipolar ∷ source (K.Constant) S.Global R.Unipolar ∷ source (K.Signal) S.Voice R.Unipolar ∷ source (K.Audio) S.Voice R.Unipolar ∷ source (K.Alternate true) S.Voice R.Unipolar ∷ source (K.Random) S.Voice R.Unipolar ∷ source (K.Constant) S.Global R.Unipolar ∷ source (K.Signal) S.Voice R.Unipolar ∷ source (K.Random) S.Voice R.Unipolar ∷ source (K.Audio) S.Global R.Bipolar ∷ source (K.Signal) S.Global R.Unipolar ∷ source (K.Signal) S.Voice R.Unipolar ∷ source (K.Key) S.Voice R.Unipolar ∷ source (K.Audio) S.Voice R.Unipolar ∷ source (K.Audio) S.Global R.Bipolar ∷ source (K.ReleaseVelocity) S.Voice R.Unipolar ∷ source (K.Random) S.Voice R.Unipolar ∷ source (K.Held) S.Global R.Unipolar ∷ source (K.Key) S.Voice R.Unipolar ∷ source (K.Constant) S.Global R.Unipolar ∷ source (K.Alternate false) S.Voice R.Unipolar ∷ source (K.Velocity) S.Voice R.Bipolar ∷ source (K.Random) S.Voice R.Unipolar ∷ source (K.Random) S.Voice R.Unipolar ∷ source (K.RandomPerRoute) S.Voice R.Unipolar ∷ source (K.Key) S.Voice R.Unipolar ∷ source (K.Constant) S.Global R.Unipolar ∷ source (K.Held) S.Global R.Unipolar ∷ source (K.RandomPerRoute) S.Voice R.Unipolar ∷ source (K.Velocity) S.Global R.Unipolar ∷ source (K.Audio) S.Voice R.Bipolar ∷ source (K.Signal) S.Voice R.Unipolar ∷ source (K.ReleaseVelocity) S.Voice R.Unipolar ∷ source (K.VoiceLoad) S.Global R.Unipolar ∷ source (K.RandomPerRoute) S.Voice R.Bipolar ∷ source (K.Held) S.Global R.Unipolar ∷ source (K.Audio) S.Global R.Bipolar ∷ source (K.ReleaseVelocity) S.Voice R.Unipolar ∷ source (K.Velocity) S.Voice R.Unipolar ∷ source (K.Key) S.Voice R.Unipolar ∷ source (K.Audio) S.Voice R.Bipolar ∷ source (K.RandomPerRoute) S.Voice R.Unipolar ∷ source (K.RandomPerRoute) S.Voice R.Unipolar ∷ source (K.Held) S.Voice R.Unipolar ∷ source (K.Held) S.Voice R.Unipolar ∷ source (K.Signal) S.Voice R.Bipolar ∷ source (K.Constant) S.Global R.Unipolar ∷ source (K.Signal) S.Voice R.Unipolar ∷ source (K.Held) S.Global R.Unipolar ∷ source (K.Velocity) S.Global R.Unipolar ∷ source (K.Held) S.Global R.Unipolar ∷ source (K.Random) S.Voice R.Bipolar ∷ source (K.Held) S.Global R.Unipolar ∷ [])
     (record { target = (A.Param 0); scope = S.Global; rate = T.Adaptive; min = (fin false 0 (pos 0)); max = (fin false 1 (pos 0)); feed = F.Nothing } ∷ record { target = (A.Param 7); scope = S.Global; rate = T.Control; min = (fin true 10189513 (negsuc 24)); max = (fin false 2552971 (negsuc 20)); feed = F.Nothing } ∷ record { target = (A.LfoBus 2 0); scope = S.Voice; rate = T.Control; min = (inf true); max = (inf false); feed = F.Nothing } ∷ record { target = (A.Param 21); scope = S.Global; rate = T.Control; min = (fin true 10878035 (negsuc 21)); max = (fin false 6135849 (negsuc 20)); feed = (F.Output 0) } ∷ record { target = (A.Param 28); scope = S.Global; rate = T.Adaptive; min = (fin false 0 (pos 0)); max = (inf false); feed = F.Nothing } ∷ record { target = (A.Param 35); scope = S.Global; rate = T.Control; min = (fin false 0 (pos 0)); max = (fin false 1 (pos 0)); feed = F.Nothing } ∷ record { target = (A.Param 42); scope = S.Voice; rate = T.Adaptive; min = (fin true 1 (pos 0)); max = (fin false 1 (pos 0)); feed = F.Nothing } ∷ [])
     (record { source = P.Source 5; «source_curve» = C.Table (fin false 0 (pos 0)) (fin false 0 (pos 0)); amount = (fin false 1 (negsuc 0)); polarity = Q.Bipolar; destination = M.At (A.Param 35); aux = P.Nothing; «aux_invert» = false; «aux_curve» = C.Linear; output = (fin false 11567083 (negsuc 25)); bypass = false } ∷ record { source = P.Source 37; «source_curve» = C.Linear; amount = (fin true 1 (pos 0)); polarity = Q.Bipolar; destination = M.At (A.Param 42); aux = P.Source 41; «aux_invert» = false; «aux_curve» = C.Linear; output = (fin false 1 (pos 0)); bypass = false } ∷ record { source = P.Source 59; «source_curve» = C.Table (fin false 0 (pos 0)) (fin false 0 (pos 0)); amount = (fin true 1 (pos 0)); polarity = Q.Bipolar; destination = M.At (A.Param 21); aux = P.Nothing; «aux_invert» = false; «aux_curve» = C.Linear; output = (fin false 1 (pos 0)); bypass = false } ∷ record { source = P.Source 133; «source_curve» = C.Linear; amount = (fin true 3527255 (negsuc 21)); polarity = Q.Bipolar; destination = M.At (A.Param 28); aux = P.Nothing; «aux_invert» = false; «aux_curve» = C.Linear; output = (fin false 180033 (negsuc 17)); bypass = false } ∷ [])
 
-p39 : Compiles w39
+p40 : Compiles w40
     (record { dest = 3; voice = false; audio = false; min = (fin true 10878035 (negsuc 21)); max = (fin false 6135849 (negsuc 20)); base = B.Output 0; first = 0; count = 1 } ∷ record { dest = 5; voice = false; audio = false; min = (fin false 0 (pos 0)); max = (fin false 1 (pos 0)); base = B.Set; first = 1; count = 1 } ∷ record { dest = 6; voice = true; audio = true; min = (fin true 1 (pos 0)); max = (fin false 1 (pos 0)); base = B.Set; first = 2; count = 1 } ∷ [])
     2
     (record { slot = 2; source = record { read = D.Held 59 true; bipolar = false; table = true; slew = L.Free }; aux = X.Missing; «aux_invert» = false; bipolar = true; amount = G.Live; output = G.Live; voice = true; scale = (fin false 1 (pos 1)); offset = (fin true 1 (pos 0)); simple = false } ∷ record { slot = 0; source = record { read = D.Held 5 false; bipolar = false; table = true; slew = L.Free }; aux = X.Missing; «aux_invert» = false; bipolar = true; amount = G.Live; output = G.Fed 0 false; voice = false; scale = (fin false 1 (pos 1)); offset = (fin true 1 (pos 0)); simple = false } ∷ record { slot = 1; source = record { read = D.Held 37 false; bipolar = false; table = false; slew = L.Free }; aux = X.With (record { read = D.Signal 41 true; bipolar = true; table = false; slew = L.Free }); «aux_invert» = false; bipolar = true; amount = G.Live; output = G.Live; voice = true; scale = (fin false 1 (pos 1)); offset = (fin true 1 (pos 0)); simple = false } ∷ [])
     (record { slot = 3; reason = E.UnknownSource } ∷ [])
-unfolding w39 targetPlace verdict candidatesFrom skippedFrom candidates skippedOf inUse countedFeed feederOf reads hearsAudio isAudio controls audios planOrder planPlace readOf slewFor inputOf routeOf routesInto planOf plansOf allRoutes order secondsOf ratePerSample max32 isNan lt eq mul div
-p39 = (refl, refl, refl, refl)
+unfolding w40 targetPlace verdict candidatesFrom skippedFrom candidates skippedOf inUse countedFeed feederOf reads hearsAudio isAudio controls audios planOrder planPlace readOf slewFor inputOf routeOf routesInto planOf plansOf allRoutes order secondsOf ratePerSample max32 isNan lt eq mul div
+p40 = (refl, refl, refl, refl)
 
 -- gen.py 6
-w40 : Wiring
-w40 =
+w41 : Wiring
+w41 =
     wired (fin false 1953125 (pos 9))
     (source (K.Random) S.Voice R.Unipolar ∷ source (K.Alternate false) S.Voice R.Bipolar ∷ source (K.Audio) S.Voice R.Bipolar ∷ source (K.Signal) S.Voice R.Unipolar ∷ source (K.Held) S.Global R.Bipolar ∷ source (K.Held) S.Voice R.Bipolar ∷ source (K.Held) S.Voice R.Unipolar ∷ [])
     (record { target = (A.Param 0); scope = S.Voice; rate = T.Control; min = (fin false 11888279 (negsuc 28)); max = (fin false 617205 (negsuc 17)); feed = F.Nothing } ∷ record { target = (A.Param 7); scope = S.Voice; rate = T.Audio; min = (fin false 0 (pos 0)); max = (fin false 1 (pos 0)); feed = F.Nothing } ∷ record { target = (A.Param 14); scope = S.Global; rate = T.Audio; min = (inf true); max = (inf false); feed = F.Nothing } ∷ record { target = (A.Param 21); scope = S.Global; rate = T.Adaptive; min = (fin true 1 (pos 0)); max = (fin false 1 (pos 0)); feed = F.Nothing } ∷ record { target = (A.Param 28); scope = S.Global; rate = T.Audio; min = (inf true); max = (fin false 0 (pos 0)); feed = (F.Source 4) } ∷ record { target = (A.LfoBus 5 0); scope = S.Global; rate = T.Adaptive; min = (fin true 0 (pos 0)); max = (fin false 1 (pos 0)); feed = (F.Source 4) } ∷ [])
     (record { source = P.Source 4; «source_curve» = C.Linear; amount = (fin false 1 (negsuc 0)); polarity = Q.Unipolar; destination = M.At (A.Param 28); aux = P.Nothing; «aux_invert» = false; «aux_curve» = C.Linear; output = (fin false 1 (pos 0)); bypass = false } ∷ record { source = P.Nothing; «source_curve» = C.Table (fin false 0 (pos 0)) (fin false 0 (pos 0)); amount = (fin true 13578041 (negsuc 27)); polarity = Q.Bipolar; destination = M.At (A.Param 21); aux = P.Nothing; «aux_invert» = false; «aux_curve» = C.Linear; output = (fin false 11650977 (negsuc 23)); bypass = false } ∷ record { source = P.Source 6; «source_curve» = C.Linear; amount = (fin true 10107257 (negsuc 24)); polarity = Q.Unipolar; destination = M.At (A.Param 28); aux = P.Nothing; «aux_invert» = false; «aux_curve» = C.Linear; output = (fin false 1 (pos 0)); bypass = false } ∷ record { source = P.Source 1; «source_curve» = C.Table (fin false 0 (pos 0)) (fin false 9007199 (negsuc 47)); amount = (fin false 1 (pos 0)); polarity = Q.Unipolar; destination = M.At (A.Param 0); aux = P.Source 3; «aux_invert» = true; «aux_curve» = C.Linear; output = (fin false 1 (pos 0)); bypass = false } ∷ record { source = P.Source 1; «source_curve» = C.Table (fin false 0 (pos 0)) (fin false 0 (pos 0)); amount = (fin false 1 (pos 0)); polarity = Q.Bipolar; destination = M.Nothing; aux = P.Nothing; «aux_invert» = false; «aux_curve» = C.Linear; output = (fin false 1 (pos 0)); bypass = false } ∷ record { source = P.Source 5; «source_curve» = C.Linear; amount = (fin false 1 (negsuc 0)); polarity = Q.Bipolar; destination = M.At (A.LfoBus 5 0); aux = P.Nothing; «aux_invert» = false; «aux_curve» = C.Linear; output = (fin false 1 (pos 0)); bypass = false } ∷ record { source = P.Source 3; «source_curve» = C.Linear; amount = (fin false 1 (negsuc 0)); polarity = Q.Unipolar; destination = M.At (A.Param 0); aux = P.Source 1; «aux_invert» = false; «aux_curve» = C.Linear; output = (fin false 1 (pos 0)); bypass = false } ∷ record { source = P.Source 2; «source_curve» = C.Table (fin false 0 (pos 0)) (fin false 0 (pos 0)); amount = (fin true 1 (pos 0)); polarity = Q.Bipolar; destination = M.At (A.Param 0); aux = P.Nothing; «aux_invert» = false; «aux_curve» = C.Linear; output = (fin false 1 (pos 0)); bypass = false } ∷ [])
 
-p40 : Compiles w40
+p41 : Compiles w41
     (record { dest = 0; voice = true; audio = false; min = (fin false 11888279 (negsuc 28)); max = (fin false 617205 (negsuc 17)); base = B.Set; first = 0; count = 3 } ∷ record { dest = 5; voice = false; audio = false; min = (fin true 0 (pos 0)); max = (fin false 1 (pos 0)); base = B.Held 4; first = 3; count = 1 } ∷ record { dest = 4; voice = false; audio = false; min = (inf true); max = (fin false 0 (pos 0)); base = B.Held 4; first = 4; count = 2 } ∷ [])
     3
     (record { slot = 3; source = record { read = D.Held 1 true; bipolar = true; table = true; slew = L.Limit (inf false) (fin false 1 (negsuc 4)) }; aux = X.With (record { read = D.Signal 3 true; bipolar = false; table = false; slew = L.Free }); «aux_invert» = true; bipolar = false; amount = G.Live; output = G.Live; voice = true; scale = (fin false 1 (negsuc 0)); offset = (fin false 1 (negsuc 0)); simple = false } ∷ record { slot = 6; source = record { read = D.Signal 3 true; bipolar = false; table = false; slew = L.Free }; aux = X.With (record { read = D.Held 1 true; bipolar = true; table = false; slew = L.Free }); «aux_invert» = false; bipolar = false; amount = G.Live; output = G.Live; voice = true; scale = (fin false 1 (pos 0)); offset = (fin false 0 (pos 0)); simple = false } ∷ record { slot = 7; source = record { read = D.Signal 2 true; bipolar = true; table = true; slew = L.Free }; aux = X.Missing; «aux_invert» = false; bipolar = true; amount = G.Live; output = G.Live; voice = true; scale = (fin false 1 (pos 0)); offset = (fin false 0 (pos 0)); simple = false } ∷ record { slot = 5; source = record { read = D.Held 5 true; bipolar = true; table = false; slew = L.Free }; aux = X.Missing; «aux_invert» = false; bipolar = true; amount = G.Live; output = G.Live; voice = true; scale = (fin false 1 (pos 0)); offset = (fin false 0 (pos 0)); simple = false } ∷ record { slot = 0; source = record { read = D.Fed 1 false; bipolar = true; table = false; slew = L.Free }; aux = X.Missing; «aux_invert» = false; bipolar = false; amount = G.Live; output = G.Live; voice = false; scale = (fin false 1 (negsuc 0)); offset = (fin false 1 (negsuc 0)); simple = false } ∷ record { slot = 2; source = record { read = D.Held 6 true; bipolar = false; table = false; slew = L.Free }; aux = X.Missing; «aux_invert» = false; bipolar = false; amount = G.Live; output = G.Live; voice = true; scale = (fin false 1 (pos 0)); offset = (fin false 0 (pos 0)); simple = false } ∷ [])
     ([])
-unfolding w40 targetPlace verdict candidatesFrom skippedFrom candidates skippedOf inUse countedFeed feederOf reads hearsAudio isAudio controls audios planOrder planPlace readOf slewFor inputOf routeOf routesInto planOf plansOf allRoutes order secondsOf ratePerSample max32 isNan lt eq mul div
-p40 = (refl, refl, refl, refl)
+unfolding w41 targetPlace verdict candidatesFrom skippedFrom candidates skippedOf inUse countedFeed feederOf reads hearsAudio isAudio controls audios planOrder planPlace readOf slewFor inputOf routeOf routesInto planOf plansOf allRoutes order secondsOf ratePerSample max32 isNan lt eq mul div
+p41 = (refl, refl, refl, refl)
 
 -- gen.py 7
-w41 : Wiring
-w41 =
+w42 : Wiring
+w42 =
     wired (fin false 8589935 (negsuc 32))
     (source (K.Held) S.Global R.Unipolar ∷ source (K.Held) S.Global R.Unipolar ∷ source (K.Held) S.Global R.Unipolar ∷ source (K.Held) S.Global R.Unipolar ∷ source (K.Held) S.Voice R.Unipolar ∷ source (K.Held) S.Global R.Unipolar ∷ source (K.Held) S.Voice R.Unipolar ∷ source (K.Held) S.Global R.Unipolar ∷ source (K.Held) S.Global R.Bipolar ∷ source (K.Held) S.Global R.Unipolar ∷ source (K.Signal) S.Voice R.Unipolar ∷ source (K.Held) S.Global R.Unipolar ∷ [])
     (record { target = (A.Param 0); scope = S.Global; rate = T.Control; min = (fin false 0 (pos 0)); max = (fin false 1 (pos 0)); feed = F.Nothing } ∷ record { target = (A.Param 4294967294); scope = S.Global; rate = T.Control; min = (fin true 1 (pos 0)); max = (fin false 1 (pos 0)); feed = F.Nothing } ∷ record { target = (A.LfoBus 2 0); scope = S.Global; rate = T.Control; min = (fin false 0 (pos 0)); max = (fin false 1 (pos 0)); feed = (F.Amount 0) } ∷ record { target = (A.Param 21); scope = S.Global; rate = T.Control; min = (fin true 1 (pos 0)); max = (fin false 1 (pos 0)); feed = (F.Amount 0) } ∷ record { target = (A.Param 28); scope = S.Global; rate = T.Control; min = (fin false 12086505 (negsuc 22)); max = (fin false 2559389 (negsuc 19)); feed = (F.Amount 0) } ∷ record { target = (A.LfoBus 5 0); scope = S.Global; rate = T.Control; min = (fin false 0 (pos 0)); max = (fin false 1 (pos 0)); feed = (F.Amount 0) } ∷ record { target = (A.Param 42); scope = S.Global; rate = T.Control; min = (fin false 0 (pos 0)); max = (fin false 1 (pos 0)); feed = F.Nothing } ∷ [])
     (record { source = P.Source 10; «source_curve» = C.Linear; amount = (fin false 15265557 (negsuc 25)); polarity = Q.Bipolar; destination = M.At (A.Param 28); aux = P.Source 3; «aux_invert» = false; «aux_curve» = C.Table (fin false 0 (pos 0)) (fin false 0 (pos 0)); output = (fin false 1 (pos 0)); bypass = false } ∷ record { source = P.Nothing; «source_curve» = C.Linear; amount = (fin false 0 (pos 0)); polarity = Q.Unipolar; destination = M.Nothing; aux = P.Nothing; «aux_invert» = false; «aux_curve» = C.Linear; output = (fin false 1 (pos 0)); bypass = false } ∷ [])
 
-p41 : Compiles w41
+p42 : Compiles w42
     (record { dest = 4; voice = false; audio = false; min = (fin false 12086505 (negsuc 22)); max = (fin false 2559389 (negsuc 19)); base = B.Amount 0; first = 0; count = 1 } ∷ [])
     1
     (record { slot = 0; source = record { read = D.Signal 10 true; bipolar = false; table = false; slew = L.Free }; aux = X.With (record { read = D.Held 3 false; bipolar = false; table = true; slew = L.Free }); «aux_invert» = false; bipolar = true; amount = G.Fed 0 false; output = G.Live; voice = true; scale = (fin false 1 (pos 1)); offset = (fin true 1 (pos 0)); simple = false } ∷ [])
     ([])
-unfolding w41 targetPlace verdict candidatesFrom skippedFrom candidates skippedOf inUse countedFeed feederOf reads hearsAudio isAudio controls audios planOrder planPlace readOf slewFor inputOf routeOf routesInto planOf plansOf allRoutes order secondsOf ratePerSample max32 isNan lt eq mul div
-p41 = (refl, refl, refl, refl)
+unfolding w42 targetPlace verdict candidatesFrom skippedFrom candidates skippedOf inUse countedFeed feederOf reads hearsAudio isAudio controls audios planOrder planPlace readOf slewFor inputOf routeOf routesInto planOf plansOf allRoutes order secondsOf ratePerSample max32 isNan lt eq mul div
+p42 = (refl, refl, refl, refl)
 
 -- gen.py 14
-w42 : Wiring
-w42 =
+w43 : Wiring
+w43 =
     wired (fin false 375 (pos 7))
     (source (K.Signal) S.Voice R.Unipolar ∷ source (K.Signal) S.Voice R.Bipolar ∷ source (K.Constant) S.Global R.Unipolar ∷ source (K.Random) S.Voice R.Unipolar ∷ source (K.Signal) S.Global R.Unipolar ∷ source (K.Held) S.Global R.Unipolar ∷ source (K.RandomPerRoute) S.Global R.Unipolar ∷ [])
     (record { target = (A.LfoBus 0 0); scope = S.Voice; rate = T.Audio; min = (fin true 1 (pos 0)); max = (fin false 1 (pos 0)); feed = F.Nothing } ∷ [])
     (record { source = P.Source 2; «source_curve» = C.Linear; amount = (fin true 1 (pos 0)); polarity = Q.Unipolar; destination = M.At (A.LfoBus 0 0); aux = P.Source 2; «aux_invert» = true; «aux_curve» = C.Linear; output = (fin false 1 (pos 0)); bypass = false } ∷ record { source = P.Source 1; «source_curve» = C.Linear; amount = (fin false 5727695 (negsuc 22)); polarity = Q.Unipolar; destination = M.At (A.LfoBus 0 0); aux = P.Source 2; «aux_invert» = true; «aux_curve» = C.Table (fin false 1 (pos 0)) (fin false 332307 (negsuc 117)); output = (fin false 1 (pos 0)); bypass = false } ∷ [])
 
-p42 : Compiles w42
+p43 : Compiles w43
     (record { dest = 0; voice = true; audio = true; min = (fin true 1 (pos 0)); max = (fin false 1 (pos 0)); base = B.Set; first = 0; count = 2 } ∷ [])
     0
     (record { slot = 0; source = record { read = D.Constant; bipolar = false; table = false; slew = L.Free }; aux = X.With (record { read = D.Constant; bipolar = false; table = false; slew = L.Free }); «aux_invert» = true; bipolar = false; amount = G.Live; output = G.Live; voice = false; scale = (fin false 1 (pos 0)); offset = (fin false 0 (pos 0)); simple = false } ∷ record { slot = 1; source = record { read = D.Signal 1 true; bipolar = true; table = false; slew = L.Free }; aux = X.With (record { read = D.Constant; bipolar = false; table = true; slew = L.Limit (fin false 5726623 (negsuc 37)) (fin false 4517509 (pos 62)) }); «aux_invert» = true; bipolar = false; amount = G.Live; output = G.Live; voice = true; scale = (fin false 1 (negsuc 0)); offset = (fin false 1 (negsuc 0)); simple = false } ∷ [])
     ([])
-unfolding w42 targetPlace verdict candidatesFrom skippedFrom candidates skippedOf inUse countedFeed feederOf reads hearsAudio isAudio controls audios planOrder planPlace readOf slewFor inputOf routeOf routesInto planOf plansOf allRoutes order secondsOf ratePerSample max32 isNan lt eq mul div
-p42 = (refl, refl, refl, refl)
+unfolding w43 targetPlace verdict candidatesFrom skippedFrom candidates skippedOf inUse countedFeed feederOf reads hearsAudio isAudio controls audios planOrder planPlace readOf slewFor inputOf routeOf routesInto planOf plansOf allRoutes order secondsOf ratePerSample max32 isNan lt eq mul div
+p43 = (refl, refl, refl, refl)
 
 -- gen.py 16
-w43 : Wiring
-w43 =
+w44 : Wiring
+w44 =
     wired (fin false 375 (pos 7))
     (source (K.Held) S.Global R.Unipolar ∷ source (K.Held) S.Global R.Unipolar ∷ source (K.Held) S.Global R.Unipolar ∷ source (K.Held) S.Voice R.Unipolar ∷ source (K.Velocity) S.Voice R.Unipolar ∷ source (K.Audio) S.Voice R.Bipolar ∷ source (K.Held) S.Global R.Unipolar ∷ source (K.Held) S.Global R.Unipolar ∷ source (K.Signal) S.Voice R.Unipolar ∷ source (K.RandomPerRoute) S.Voice R.Unipolar ∷ source (K.Constant) S.Global R.Unipolar ∷ source (K.Held) S.Voice R.Unipolar ∷ source (K.Held) S.Global R.Unipolar ∷ source (K.Audio) S.Voice R.Bipolar ∷ [])
     (record { target = (A.LfoBus 0 0); scope = S.Global; rate = T.Control; min = (fin false 0 (pos 0)); max = (fin false 1 (pos 0)); feed = (F.Amount 0) } ∷ record { target = (A.Param 7); scope = S.Global; rate = T.Control; min = (fin true 7352467 (negsuc 21)); max = (fin true 3158163 (negsuc 21)); feed = (F.Amount 0) } ∷ record { target = (A.Param 14); scope = S.Global; rate = T.Control; min = (inf true); max = (fin false 0 (pos 0)); feed = (F.Source 1) } ∷ record { target = (A.Param 21); scope = S.Global; rate = T.Adaptive; min = (fin true 1 (pos 0)); max = (fin false 1 (pos 0)); feed = (F.Source 1) } ∷ record { target = (A.Param 28); scope = S.Global; rate = T.Control; min = (inf true); max = (fin false 0 (pos 0)); feed = (F.Output 2) } ∷ record { target = (A.Param 35); scope = S.Global; rate = T.Control; min = (fin true 1 (pos 0)); max = (fin false 1 (pos 0)); feed = (F.Amount 13) } ∷ [])
     (record { source = P.Source 1; «source_curve» = C.Table (fin false 0 (pos 0)) (fin false 0 (pos 0)); amount = (fin false 10454057 (negsuc 23)); polarity = Q.Bipolar; destination = M.At (A.Param 28); aux = P.Nothing; «aux_invert» = false; «aux_curve» = C.Linear; output = (fin false 1 (pos 0)); bypass = false } ∷ record { source = P.Source 1; «source_curve» = C.Linear; amount = (fin true 1 (negsuc 1)); polarity = Q.Bipolar; destination = M.At (A.Param 21); aux = P.Source 11; «aux_invert» = false; «aux_curve» = C.Table (fin false 332307 (negsuc 117)) (fin true 1 (pos 0)); output = (fin false 1 (pos 0)); bypass = false } ∷ record { source = P.Source 8; «source_curve» = C.Linear; amount = (fin false 0 (pos 0)); polarity = Q.Unipolar; destination = M.At (A.Param 7); aux = P.Nothing; «aux_invert» = false; «aux_curve» = C.Linear; output = (fin true 16777215 (negsuc 23)); bypass = false } ∷ record { source = P.Source 1; «source_curve» = C.Linear; amount = (fin true 467889 (negsuc 21)); polarity = Q.Bipolar; destination = M.At (A.Param 21); aux = P.Nothing; «aux_invert» = false; «aux_curve» = C.Linear; output = (fin false 1 (pos 0)); bypass = false } ∷ [])
 
-p43 : Compiles w43
+p44 : Compiles w44
     (record { dest = 3; voice = false; audio = false; min = (fin true 1 (pos 0)); max = (fin false 1 (pos 0)); base = B.Held 1; first = 0; count = 2 } ∷ record { dest = 1; voice = false; audio = false; min = (fin true 7352467 (negsuc 21)); max = (fin true 3158163 (negsuc 21)); base = B.Amount 0; first = 2; count = 1 } ∷ record { dest = 4; voice = false; audio = false; min = (inf true); max = (fin false 0 (pos 0)); base = B.Output 2; first = 3; count = 1 } ∷ [])
     3
     (record { slot = 1; source = record { read = D.Fed 0 false; bipolar = false; table = false; slew = L.Free }; aux = X.With (record { read = D.Held 11 true; bipolar = false; table = true; slew = L.Limit (fin false 4517509 (pos 62)) (inf false) }); «aux_invert» = false; bipolar = true; amount = G.Live; output = G.Live; voice = true; scale = (fin false 1 (pos 1)); offset = (fin true 1 (pos 0)); simple = false } ∷ record { slot = 3; source = record { read = D.Fed 0 false; bipolar = false; table = false; slew = L.Free }; aux = X.Missing; «aux_invert» = false; bipolar = true; amount = G.Live; output = G.Live; voice = false; scale = (fin false 1 (pos 1)); offset = (fin true 1 (pos 0)); simple = false } ∷ record { slot = 2; source = record { read = D.Signal 8 true; bipolar = false; table = false; slew = L.Free }; aux = X.Missing; «aux_invert» = false; bipolar = false; amount = G.Live; output = G.Fed 2 false; voice = true; scale = (fin false 1 (pos 0)); offset = (fin false 0 (pos 0)); simple = false } ∷ record { slot = 0; source = record { read = D.Fed 0 false; bipolar = false; table = true; slew = L.Free }; aux = X.Missing; «aux_invert» = false; bipolar = true; amount = G.Fed 1 false; output = G.Live; voice = false; scale = (fin false 1 (pos 1)); offset = (fin true 1 (pos 0)); simple = false } ∷ [])
     ([])
-unfolding w43 targetPlace verdict candidatesFrom skippedFrom candidates skippedOf inUse countedFeed feederOf reads hearsAudio isAudio controls audios planOrder planPlace readOf slewFor inputOf routeOf routesInto planOf plansOf allRoutes order secondsOf ratePerSample max32 isNan lt eq mul div
-p43 = (refl, refl, refl, refl)
+unfolding w44 targetPlace verdict candidatesFrom skippedFrom candidates skippedOf inUse countedFeed feederOf reads hearsAudio isAudio controls audios planOrder planPlace readOf slewFor inputOf routeOf routesInto planOf plansOf allRoutes order secondsOf ratePerSample max32 isNan lt eq mul div
+p44 = (refl, refl, refl, refl)
 
 -- gen.py 24
-w44 : Wiring
-w44 =
+w45 : Wiring
+w45 =
     wired (fin false 1 (pos 6))
     (source (K.Random) S.Voice R.Unipolar ∷ source (K.Key) S.Voice R.Unipolar ∷ [])
     (record { target = (A.Param 0); scope = S.Voice; rate = T.Adaptive; min = (inf true); max = (fin false 0 (pos 0)); feed = F.Nothing } ∷ record { target = (A.Param 7); scope = S.Voice; rate = T.Control; min = (fin true 5021599 (negsuc 20)); max = (fin true 11697789 (negsuc 22)); feed = F.Nothing } ∷ record { target = (A.Param 14); scope = S.Voice; rate = T.Control; min = (fin false 0 (pos 0)); max = (fin false 1 (pos 0)); feed = F.Nothing } ∷ record { target = (A.Param 21); scope = S.Global; rate = T.Control; min = (fin false 0 (pos 0)); max = (fin false 1 (pos 0)); feed = F.Nothing } ∷ record { target = (A.Param 28); scope = S.Voice; rate = T.Audio; min = (inf true); max = (inf false); feed = F.Nothing } ∷ record { target = (A.Param 35); scope = S.Voice; rate = T.Audio; min = (fin false 0 (pos 0)); max = (inf false); feed = (F.Source 1) } ∷ record { target = (A.Param 42); scope = S.Voice; rate = T.Adaptive; min = (fin true 1 (pos 0)); max = (fin false 1 (pos 0)); feed = F.Nothing } ∷ record { target = (A.Param 49); scope = S.Voice; rate = T.Control; min = (inf true); max = (inf false); feed = F.Nothing } ∷ [])
     (record { source = P.Source 0; «source_curve» = C.Linear; amount = (fin false 0 (pos 0)); polarity = Q.Bipolar; destination = M.At (A.Param 28); aux = P.Nothing; «aux_invert» = false; «aux_curve» = C.Linear; output = (fin false 1 (pos 0)); bypass = false } ∷ record { source = P.Source 0; «source_curve» = C.Linear; amount = (fin true 0 (pos 0)); polarity = Q.Unipolar; destination = M.At (A.Param 21); aux = P.Source 0; «aux_invert» = false; «aux_curve» = C.Linear; output = (fin false 1 (pos 0)); bypass = false } ∷ record { source = P.Source 0; «source_curve» = C.Linear; amount = (fin true 0 (pos 0)); polarity = Q.Unipolar; destination = M.At (A.Param 42); aux = P.Nothing; «aux_invert» = false; «aux_curve» = C.Linear; output = (fin false 1 (pos 0)); bypass = false } ∷ record { source = P.Source 1; «source_curve» = C.Linear; amount = (fin false 9705807 (negsuc 25)); polarity = Q.Unipolar; destination = M.At (A.Param 49); aux = P.Nothing; «aux_invert» = false; «aux_curve» = C.Linear; output = (fin false 1 (pos 0)); bypass = false } ∷ [])
 
-p44 : Compiles w44
+p45 : Compiles w45
     (record { dest = 3; voice = false; audio = false; min = (fin false 0 (pos 0)); max = (fin false 1 (pos 0)); base = B.Set; first = 0; count = 1 } ∷ record { dest = 6; voice = true; audio = false; min = (fin true 1 (pos 0)); max = (fin false 1 (pos 0)); base = B.Set; first = 1; count = 1 } ∷ record { dest = 7; voice = true; audio = false; min = (inf true); max = (inf false); base = B.Set; first = 2; count = 1 } ∷ record { dest = 4; voice = true; audio = true; min = (inf true); max = (inf false); base = B.Set; first = 3; count = 1 } ∷ [])
     3
     (record { slot = 1; source = record { read = D.Held 0 true; bipolar = false; table = false; slew = L.Free }; aux = X.With (record { read = D.Held 0 true; bipolar = false; table = false; slew = L.Free }); «aux_invert» = false; bipolar = false; amount = G.Live; output = G.Live; voice = true; scale = (fin false 1 (pos 0)); offset = (fin false 0 (pos 0)); simple = false } ∷ record { slot = 2; source = record { read = D.Held 0 true; bipolar = false; table = false; slew = L.Free }; aux = X.Missing; «aux_invert» = false; bipolar = false; amount = G.Live; output = G.Live; voice = true; scale = (fin false 1 (pos 0)); offset = (fin false 0 (pos 0)); simple = true } ∷ record { slot = 3; source = record { read = D.Held 1 true; bipolar = false; table = false; slew = L.Free }; aux = X.Missing; «aux_invert» = false; bipolar = false; amount = G.Live; output = G.Live; voice = true; scale = (fin false 1 (pos 0)); offset = (fin false 0 (pos 0)); simple = true } ∷ record { slot = 0; source = record { read = D.Held 0 true; bipolar = false; table = false; slew = L.Free }; aux = X.Missing; «aux_invert» = false; bipolar = true; amount = G.Live; output = G.Live; voice = true; scale = (fin false 1 (pos 1)); offset = (fin true 1 (pos 0)); simple = true } ∷ [])
     ([])
-unfolding w44 targetPlace verdict candidatesFrom skippedFrom candidates skippedOf inUse countedFeed feederOf reads hearsAudio isAudio controls audios planOrder planPlace readOf slewFor inputOf routeOf routesInto planOf plansOf allRoutes order secondsOf ratePerSample max32 isNan lt eq mul div
-p44 = (refl, refl, refl, refl)
+unfolding w45 targetPlace verdict candidatesFrom skippedFrom candidates skippedOf inUse countedFeed feederOf reads hearsAudio isAudio controls audios planOrder planPlace readOf slewFor inputOf routeOf routesInto planOf plansOf allRoutes order secondsOf ratePerSample max32 isNan lt eq mul div
+p45 = (refl, refl, refl, refl)
 
 -- gen.py 28
-w45 : Wiring
-w45 =
+w46 : Wiring
+w46 =
     wired (fin false 11025 (pos 2))
     (source (K.Audio) S.Voice R.Bipolar ∷ source (K.Velocity) S.Voice R.Unipolar ∷ source (K.VoiceLoad) S.Global R.Bipolar ∷ source (K.RandomPerRoute) S.Voice R.Unipolar ∷ source (K.Constant) S.Global R.Unipolar ∷ source (K.Signal) S.Voice R.Bipolar ∷ source (K.Audio) S.Global R.Bipolar ∷ [])
     (record { target = (A.Param 0); scope = S.Global; rate = T.Audio; min = (fin true 1 (pos 0)); max = (fin false 1 (pos 0)); feed = (F.Amount 2) } ∷ [])
     (record { source = P.Source 0; «source_curve» = C.Table (fin false 6233059 (negsuc 32)) (fin true 0 (pos 0)); amount = (fin true 1 (negsuc 0)); polarity = Q.Bipolar; destination = M.At (A.Param 0); aux = P.Nothing; «aux_invert» = false; «aux_curve» = C.Linear; output = (fin false 1 (pos 0)); bypass = false } ∷ record { source = P.Source 4; «source_curve» = C.Linear; amount = (fin true 1 (negsuc 1)); polarity = Q.Bipolar; destination = M.At (A.Param 999999999); aux = P.Nothing; «aux_invert» = false; «aux_curve» = C.Linear; output = (fin false 1 (pos 0)); bypass = false } ∷ record { source = P.Source 5; «source_curve» = C.Table (fin false 0 (pos 0)) (fin false 0 (pos 0)); amount = (fin true 1 (pos 0)); polarity = Q.Bipolar; destination = M.At (A.Param 0); aux = P.Nothing; «aux_invert» = false; «aux_curve» = C.Linear; output = (fin true 1 (negsuc 0)); bypass = false } ∷ record { source = P.Source 1; «source_curve» = C.Linear; amount = (fin false 1 (pos 0)); polarity = Q.Unipolar; destination = M.At (A.Param 0); aux = P.Nothing; «aux_invert» = false; «aux_curve» = C.Linear; output = (fin false 1 (pos 0)); bypass = false } ∷ record { source = P.Source 1; «source_curve» = C.Table (fin false 1 (negsuc 0)) (fin false 0 (pos 0)); amount = (fin true 1 (pos 0)); polarity = Q.Bipolar; destination = M.At (A.Param 0); aux = P.Nothing; «aux_invert» = false; «aux_curve» = C.Linear; output = (fin false 1 (pos 0)); bypass = false } ∷ record { source = P.Source 0; «source_curve» = C.Linear; amount = (fin false 10603109 (negsuc 24)); polarity = Q.Bipolar; destination = M.Nothing; aux = P.Nothing; «aux_invert» = false; «aux_curve» = C.Linear; output = (fin true 0 (pos 0)); bypass = false } ∷ record { source = P.Source 6; «source_curve» = C.Linear; amount = (fin false 6915481 (negsuc 23)); polarity = Q.Unipolar; destination = M.At (A.Param 0); aux = P.Nothing; «aux_invert» = false; «aux_curve» = C.Linear; output = (fin false 1 (pos 0)); bypass = false } ∷ record { source = P.Source 1; «source_curve» = C.Table (fin false 0 (pos 0)) (fin false 0 (pos 0)); amount = (fin true 1 (pos 0)); polarity = Q.Unipolar; destination = M.At (A.LfoBus 200 200); aux = P.Nothing; «aux_invert» = false; «aux_curve» = C.Linear; output = (fin false 1 (pos 0)); bypass = false } ∷ record { source = P.Source 4; «source_curve» = C.Table (fin false 0 (pos 0)) (fin false 0 (pos 0)); amount = (fin false 0 (pos 0)); polarity = Q.Unipolar; destination = M.At (A.Param 0); aux = P.Nothing; «aux_invert» = false; «aux_curve» = C.Linear; output = (fin true 3607851 (negsuc 22)); bypass = false } ∷ record { source = P.Source 3; «source_curve» = C.Table (fin false 0 (pos 0)) (fin false 0 (pos 0)); amount = (fin false 1 (negsuc 0)); polarity = Q.Bipolar; destination = M.At (A.Param 0); aux = P.Source 2; «aux_invert» = true; «aux_curve» = C.Table (fin false 0 (pos 0)) (fin false 0 (pos 0)); output = (fin false 6798337 (negsuc 22)); bypass = true } ∷ record { source = P.Nothing; «source_curve» = C.Table (fin false 2078851 (negsuc 30)) (fin false 332307 (negsuc 117)); amount = (fin true 1 (pos 0)); polarity = Q.Unipolar; destination = M.At (A.Param 0); aux = P.Source 1; «aux_invert» = false; «aux_curve» = C.Table (fin false 6233059 (negsuc 37)) (fin false 0 (pos 0)); output = (fin false 1 (pos 0)); bypass = false } ∷ record { source = P.Source 1; «source_curve» = C.Linear; amount = (fin false 16028525 (negsuc 23)); polarity = Q.Unipolar; destination = M.At (A.Param 0); aux = P.Nothing; «aux_invert» = false; «aux_curve» = C.Linear; output = (fin false 1 (pos 0)); bypass = true } ∷ [])
 
-p45 : Compiles w45
+p46 : Compiles w46
     (record { dest = 0; voice = false; audio = false; min = (fin true 1 (pos 0)); max = (fin false 1 (pos 0)); base = B.Amount 2; first = 0; count = 6 } ∷ [])
     1
     (record { slot = 0; source = record { read = D.Signal 0 true; bipolar = true; table = true; slew = L.Limit (fin false 1 (negsuc 4)) (inf false) }; aux = X.Missing; «aux_invert» = false; bipolar = true; amount = G.Live; output = G.Live; voice = true; scale = (fin false 1 (pos 0)); offset = (fin false 0 (pos 0)); simple = false } ∷ record { slot = 2; source = record { read = D.Signal 5 true; bipolar = true; table = true; slew = L.Free }; aux = X.Missing; «aux_invert» = false; bipolar = true; amount = G.Fed 0 false; output = G.Live; voice = true; scale = (fin false 1 (pos 0)); offset = (fin false 0 (pos 0)); simple = false } ∷ record { slot = 3; source = record { read = D.Held 1 true; bipolar = false; table = false; slew = L.Free }; aux = X.Missing; «aux_invert» = false; bipolar = false; amount = G.Live; output = G.Live; voice = true; scale = (fin false 1 (pos 0)); offset = (fin false 0 (pos 0)); simple = false } ∷ record { slot = 4; source = record { read = D.Held 1 true; bipolar = false; table = true; slew = L.Limit (fin false 6233059 (negsuc 36)) (inf false) }; aux = X.Missing; «aux_invert» = false; bipolar = true; amount = G.Live; output = G.Live; voice = true; scale = (fin false 1 (pos 1)); offset = (fin true 1 (pos 0)); simple = false } ∷ record { slot = 6; source = record { read = D.Signal 6 false; bipolar = true; table = false; slew = L.Free }; aux = X.Missing; «aux_invert» = false; bipolar = false; amount = G.Live; output = G.Live; voice = false; scale = (fin false 1 (negsuc 0)); offset = (fin false 1 (negsuc 0)); simple = false } ∷ record { slot = 8; source = record { read = D.Constant; bipolar = false; table = true; slew = L.Free }; aux = X.Missing; «aux_invert» = false; bipolar = false; amount = G.Live; output = G.Live; voice = false; scale = (fin false 1 (pos 0)); offset = (fin false 0 (pos 0)); simple = false } ∷ [])
     (record { slot = 1; reason = E.UnknownDestination } ∷ record { slot = 7; reason = E.UnknownDestination } ∷ [])
-unfolding w45 targetPlace verdict candidatesFrom skippedFrom candidates skippedOf inUse countedFeed feederOf reads hearsAudio isAudio controls audios planOrder planPlace readOf slewFor inputOf routeOf routesInto planOf plansOf allRoutes order secondsOf ratePerSample max32 isNan lt eq mul div
-p45 = (refl, refl, refl, refl)
+unfolding w46 targetPlace verdict candidatesFrom skippedFrom candidates skippedOf inUse countedFeed feederOf reads hearsAudio isAudio controls audios planOrder planPlace readOf slewFor inputOf routeOf routesInto planOf plansOf allRoutes order secondsOf ratePerSample max32 isNan lt eq mul div
+p46 = (refl, refl, refl, refl)
 
 -- gen.py 31
-w46 : Wiring
-w46 =
+w47 : Wiring
+w47 =
     wired (fin false 1 (pos 6))
     (source (K.Key) S.Voice R.Unipolar ∷ source (K.ReleaseVelocity) S.Voice R.Unipolar ∷ source (K.Audio) S.Voice R.Bipolar ∷ source (K.Alternate false) S.Voice R.Unipolar ∷ source (K.Alternate true) S.Voice R.Unipolar ∷ source (K.Audio) S.Global R.Bipolar ∷ source (K.Held) S.Voice R.Unipolar ∷ source (K.Signal) S.Voice R.Unipolar ∷ source (K.Signal) S.Global R.Unipolar ∷ source (K.Held) S.Global R.Bipolar ∷ source (K.Velocity) S.Voice R.Unipolar ∷ [])
     (record { target = (A.Param 0); scope = S.Global; rate = T.Adaptive; min = (fin false 0 (pos 0)); max = (fin false 1 (pos 0)); feed = F.Nothing } ∷ record { target = (A.Param 7); scope = S.Global; rate = T.Control; min = (fin false 0 (pos 0)); max = (fin false 1 (pos 0)); feed = (F.Output 0) } ∷ record { target = (A.Param 14); scope = S.Global; rate = T.Audio; min = (fin false 0 (pos 0)); max = (fin false 1 (pos 0)); feed = F.Nothing } ∷ record { target = (A.Param 21); scope = S.Global; rate = T.Control; min = (inf true); max = (inf false); feed = F.Nothing } ∷ record { target = (A.Param 28); scope = S.Global; rate = T.Control; min = (inf true); max = (fin false 0 (pos 0)); feed = (F.Amount 0) } ∷ record { target = (A.Param 35); scope = S.Voice; rate = T.Control; min = (fin false 0 (pos 0)); max = (fin false 1 (pos 0)); feed = (F.Source 9) } ∷ record { target = (A.Param 42); scope = S.Global; rate = T.Adaptive; min = (inf true); max = (inf false); feed = (F.Source 9) } ∷ [])
     (record { source = P.Source 0; «source_curve» = C.Linear; amount = (fin false 3074471 (negsuc 21)); polarity = Q.Bipolar; destination = M.At (A.Param 14); aux = P.Nothing; «aux_invert» = false; «aux_curve» = C.Linear; output = (fin false 1 (pos 0)); bypass = false } ∷ record { source = P.Source 6; «source_curve» = C.Table (fin false 5368709 (negsuc 28)) (fin false 1 (pos 0)); amount = (fin false 1 (pos 0)); polarity = Q.Bipolar; destination = M.At (A.Param 21); aux = P.Source 4; «aux_invert» = true; «aux_curve» = C.Linear; output = (fin false 1 (pos 0)); bypass = false } ∷ record { source = P.Source 4; «source_curve» = C.Table (fin false 4097855 (negsuc 20)) (fin false 6617445 (pos 77)); amount = (fin false 0 (pos 0)); polarity = Q.Unipolar; destination = M.At (A.Param 0); aux = P.Nothing; «aux_invert» = false; «aux_curve» = C.Linear; output = (fin false 1 (negsuc 0)); bypass = false } ∷ unused ∷ record { source = P.Source 9; «source_curve» = C.Linear; amount = (fin true 7128691 (negsuc 25)); polarity = Q.Unipolar; destination = M.At (A.Param 35); aux = P.Nothing; «aux_invert» = false; «aux_curve» = C.Linear; output = (fin false 1 (pos 0)); bypass = false } ∷ unused ∷ record { source = P.Source 10; «source_curve» = C.Linear; amount = (fin true 15901461 (negsuc 23)); polarity = Q.Unipolar; destination = M.At (A.Param 42); aux = P.Nothing; «aux_invert» = false; «aux_curve» = C.Linear; output = (fin false 1 (pos 0)); bypass = false } ∷ [])
 
-p46 : Compiles w46
+p47 : Compiles w47
     (record { dest = 0; voice = false; audio = false; min = (fin false 0 (pos 0)); max = (fin false 1 (pos 0)); base = B.Set; first = 0; count = 1 } ∷ record { dest = 3; voice = false; audio = false; min = (inf true); max = (inf false); base = B.Set; first = 1; count = 1 } ∷ record { dest = 6; voice = false; audio = false; min = (inf true); max = (inf false); base = B.Held 9; first = 2; count = 1 } ∷ record { dest = 5; voice = true; audio = false; min = (fin false 0 (pos 0)); max = (fin false 1 (pos 0)); base = B.Held 9; first = 3; count = 1 } ∷ record { dest = 2; voice = false; audio = true; min = (fin false 0 (pos 0)); max = (fin false 1 (pos 0)); base = B.Set; first = 4; count = 1 } ∷ [])
     4
     (record { slot = 2; source = record { read = D.Held 4 true; bipolar = false; table = true; slew = L.Limit (fin false 4293023 (negsuc 28)) (fin false 332307 (negsuc 123)) }; aux = X.Missing; «aux_invert» = false; bipolar = false; amount = G.Live; output = G.Live; voice = true; scale = (fin false 1 (pos 0)); offset = (fin false 0 (pos 0)); simple = false } ∷ record { slot = 1; source = record { read = D.Held 6 true; bipolar = false; table = true; slew = L.Limit (fin false 25 (negsuc 3)) (fin false 1 (negsuc 5)) }; aux = X.With (record { read = D.Held 4 true; bipolar = false; table = false; slew = L.Free }); «aux_invert» = true; bipolar = true; amount = G.Live; output = G.Live; voice = true; scale = (fin false 1 (pos 1)); offset = (fin true 1 (pos 0)); simple = false } ∷ record { slot = 6; source = record { read = D.Held 10 true; bipolar = false; table = false; slew = L.Free }; aux = X.Missing; «aux_invert» = false; bipolar = false; amount = G.Live; output = G.Live; voice = true; scale = (fin false 1 (pos 0)); offset = (fin false 0 (pos 0)); simple = false } ∷ record { slot = 4; source = record { read = D.Fed 2 false; bipolar = true; table = false; slew = L.Free }; aux = X.Missing; «aux_invert» = false; bipolar = false; amount = G.Live; output = G.Live; voice = false; scale = (fin false 1 (negsuc 0)); offset = (fin false 1 (negsuc 0)); simple = false } ∷ record { slot = 0; source = record { read = D.Held 0 true; bipolar = false; table = false; slew = L.Free }; aux = X.Missing; «aux_invert» = false; bipolar = true; amount = G.Live; output = G.Live; voice = true; scale = (fin false 1 (pos 1)); offset = (fin true 1 (pos 0)); simple = false } ∷ [])
     ([])
-unfolding w46 targetPlace verdict candidatesFrom skippedFrom candidates skippedOf inUse countedFeed feederOf reads hearsAudio isAudio controls audios planOrder planPlace readOf slewFor inputOf routeOf routesInto planOf plansOf allRoutes order secondsOf ratePerSample max32 isNan lt eq mul div
-p46 = (refl, refl, refl, refl)
+unfolding w47 targetPlace verdict candidatesFrom skippedFrom candidates skippedOf inUse countedFeed feederOf reads hearsAudio isAudio controls audios planOrder planPlace readOf slewFor inputOf routeOf routesInto planOf plansOf allRoutes order secondsOf ratePerSample max32 isNan lt eq mul div
+p47 = (refl, refl, refl, refl)
 
 -- gen.py 32
-w47 : Wiring
-w47 =
+w48 : Wiring
+w48 =
     wired (fin false 1 (pos 6))
     (source (K.Constant) S.Global R.Unipolar ∷ source (K.Velocity) S.Voice R.Unipolar ∷ source (K.VoiceLoad) S.Global R.Bipolar ∷ source (K.VoiceLoad) S.Global R.Unipolar ∷ source (K.Key) S.Voice R.Unipolar ∷ source (K.Audio) S.Voice R.Bipolar ∷ source (K.Audio) S.Voice R.Bipolar ∷ source (K.Signal) S.Voice R.Unipolar ∷ source (K.Signal) S.Global R.Unipolar ∷ source (K.Held) S.Global R.Unipolar ∷ source (K.Velocity) S.Voice R.Unipolar ∷ [])
     (record { target = (A.LfoBus 0 0); scope = S.Voice; rate = T.Audio; min = (fin false 4748821 (negsuc 21)); max = (fin false 11369727 (negsuc 21)); feed = F.Nothing } ∷ record { target = (A.Param 7); scope = S.Global; rate = T.Control; min = (fin true 1 (pos 0)); max = (fin false 1 (pos 0)); feed = (F.Source 5) } ∷ record { target = (A.LfoBus 2 0); scope = S.Voice; rate = T.Audio; min = (inf true); max = (inf false); feed = (F.Source 9) } ∷ record { target = (A.LfoBus 3 0); scope = S.Voice; rate = T.Audio; min = (inf true); max = (inf false); feed = (F.Source 9) } ∷ [])
     (record { source = P.Source 5; «source_curve» = C.Table (fin false 1 (negsuc 0)) (fin false 1 (pos 0)); amount = (fin true 6613919 (negsuc 23)); polarity = Q.Unipolar; destination = M.At (A.LfoBus 0 0); aux = P.Nothing; «aux_invert» = false; «aux_curve» = C.Linear; output = (fin false 1 (pos 0)); bypass = false } ∷ record { source = P.Source 9; «source_curve» = C.Linear; amount = (fin false 1 (negsuc 0)); polarity = Q.Bipolar; destination = M.At (A.LfoBus 2 0); aux = P.Nothing; «aux_invert» = false; «aux_curve» = C.Linear; output = (fin false 1 (pos 0)); bypass = false } ∷ record { source = P.Source 2; «source_curve» = C.Linear; amount = (fin false 1 (negsuc 0)); polarity = Q.Unipolar; destination = M.At (A.Param 7); aux = P.Source 9; «aux_invert» = false; «aux_curve» = C.Table (fin false 0 (pos 0)) (fin false 0 (pos 0)); output = (fin false 1 (pos 0)); bypass = false } ∷ record { source = P.Source 65535; «source_curve» = C.Table (fin false 0 (pos 0)) (fin false 0 (pos 0)); amount = (fin true 1 (pos 0)); polarity = Q.Unipolar; destination = M.At (A.LfoBus 0 0); aux = P.Source 5; «aux_invert» = false; «aux_curve» = C.Linear; output = (fin false 1 (pos 0)); bypass = false } ∷ record { source = P.Nothing; «source_curve» = C.Linear; amount = (fin false 0 (pos 0)); polarity = Q.Unipolar; destination = M.Nothing; aux = P.Nothing; «aux_invert» = false; «aux_curve» = C.Linear; output = (fin false 1 (pos 0)); bypass = false } ∷ record { source = P.Source 5; «source_curve» = C.Linear; amount = (fin false 3120117 (negsuc 21)); polarity = Q.Unipolar; destination = M.At (A.Param 7); aux = P.Nothing; «aux_invert» = false; «aux_curve» = C.Linear; output = (fin false 1 (pos 0)); bypass = false } ∷ record { source = P.Source 7; «source_curve» = C.Table (fin false 6617445 (pos 77)) (fin false 1 (negsuc 0)); amount = (fin false 1 (pos 0)); polarity = Q.Unipolar; destination = M.At (A.LfoBus 0 0); aux = P.Nothing; «aux_invert» = false; «aux_curve» = C.Linear; output = (fin false 1 (pos 0)); bypass = false } ∷ record { source = P.Source 10; «source_curve» = C.Linear; amount = (fin false 1 (negsuc 0)); polarity = Q.Unipolar; destination = M.At (A.LfoBus 3 0); aux = P.Nothing; «aux_invert» = false; «aux_curve» = C.Linear; output = (fin false 1 (pos 0)); bypass = false } ∷ [])
 
-p47 : Compiles w47
+p48 : Compiles w48
     (record { dest = 3; voice = true; audio = false; min = (inf true); max = (inf false); base = B.Held 9; first = 0; count = 1 } ∷ record { dest = 1; voice = false; audio = false; min = (fin true 1 (pos 0)); max = (fin false 1 (pos 0)); base = B.Set; first = 1; count = 2 } ∷ record { dest = 2; voice = true; audio = false; min = (inf true); max = (inf false); base = B.Held 9; first = 3; count = 1 } ∷ record { dest = 0; voice = true; audio = true; min = (fin false 4748821 (negsuc 21)); max = (fin false 11369727 (negsuc 21)); base = B.Set; first = 4; count = 2 } ∷ [])
     3
     (record { slot = 7; source = record { read = D.Held 10 true; bipolar = false; table = false; slew = L.Free }; aux = X.Missing; «aux_invert» = false; bipolar = false; amount = G.Live; output = G.Live; voice = true; scale = (fin false 1 (pos 0)); offset = (fin false 0 (pos 0)); simple = true } ∷ record { slot = 2; source = record { read = D.Held 2 false; bipolar = true; table = false; slew = L.Free }; aux = X.With (record { read = D.Fed 0 true; bipolar = false; table = true; slew = L.Free }); «aux_invert» = false; bipolar = false; amount = G.Live; output = G.Live; voice = true; scale = (fin false 1 (negsuc 0)); offset = (fin false 1 (negsuc 0)); simple = false } ∷ record { slot = 5; source = record { read = D.Signal 5 true; bipolar = true; table = false; slew = L.Free }; aux = X.Missing; «aux_invert» = false; bipolar = false; amount = G.Live; output = G.Live; voice = true; scale = (fin false 1 (negsuc 0)); offset = (fin false 1 (negsuc 0)); simple = false } ∷ record { slot = 1; source = record { read = D.Fed 0 true; bipolar = false; table = false; slew = L.Free }; aux = X.Missing; «aux_invert» = false; bipolar = true; amount = G.Live; output = G.Live; voice = true; scale = (fin false 1 (pos 1)); offset = (fin true 1 (pos 0)); simple = true } ∷ record { slot = 0; source = record { read = D.Signal 5 true; bipolar = true; table = true; slew = L.Limit (fin false 1 (negsuc 4)) (fin false 1 (negsuc 5)) }; aux = X.Missing; «aux_invert» = false; bipolar = false; amount = G.Live; output = G.Live; voice = true; scale = (fin false 1 (negsuc 0)); offset = (fin false 1 (negsuc 0)); simple = false } ∷ record { slot = 6; source = record { read = D.Signal 7 true; bipolar = false; table = true; slew = L.Limit (fin false 332307 (negsuc 123)) (fin false 1 (negsuc 4)) }; aux = X.Missing; «aux_invert» = false; bipolar = false; amount = G.Live; output = G.Live; voice = true; scale = (fin false 1 (pos 0)); offset = (fin false 0 (pos 0)); simple = false } ∷ [])
     (record { slot = 3; reason = E.UnknownSource } ∷ [])
-unfolding w47 targetPlace verdict candidatesFrom skippedFrom candidates skippedOf inUse countedFeed feederOf reads hearsAudio isAudio controls audios planOrder planPlace readOf slewFor inputOf routeOf routesInto planOf plansOf allRoutes order secondsOf ratePerSample max32 isNan lt eq mul div
-p47 = (refl, refl, refl, refl)
+unfolding w48 targetPlace verdict candidatesFrom skippedFrom candidates skippedOf inUse countedFeed feederOf reads hearsAudio isAudio controls audios planOrder planPlace readOf slewFor inputOf routeOf routesInto planOf plansOf allRoutes order secondsOf ratePerSample max32 isNan lt eq mul div
+p48 = (refl, refl, refl, refl)
 
 -- gen.py 34
-w48 : Wiring
-w48 =
+w49 : Wiring
+w49 =
     wired (fin false 1 (pos 6))
     (source (K.ReleaseVelocity) S.Voice R.Unipolar ∷ source (K.Key) S.Global R.Unipolar ∷ source (K.Velocity) S.Voice R.Unipolar ∷ source (K.Key) S.Voice R.Unipolar ∷ source (K.Velocity) S.Voice R.Bipolar ∷ [])
     (record { target = (A.Param 0); scope = S.Global; rate = T.Control; min = (fin true 1 (pos 0)); max = (fin false 1 (pos 0)); feed = F.Nothing } ∷ record { target = (A.Param 7); scope = S.Global; rate = T.Adaptive; min = (fin false 0 (pos 0)); max = (fin false 1 (pos 0)); feed = (F.Source 1) } ∷ record { target = (A.Param 14); scope = S.Global; rate = T.Control; min = (fin true 0 (pos 0)); max = (fin false 1 (pos 0)); feed = (F.Output 3) } ∷ record { target = (A.LfoBus 3 0); scope = S.Voice; rate = T.Control; min = (inf true); max = (inf false); feed = F.Nothing } ∷ record { target = (A.Param 28); scope = S.Voice; rate = T.Control; min = (inf true); max = (inf false); feed = F.Nothing } ∷ [])
     (record { source = P.Source 0; «source_curve» = C.Linear; amount = (fin true 1 (negsuc 0)); polarity = Q.Bipolar; destination = M.At (A.Param 0); aux = P.Nothing; «aux_invert» = false; «aux_curve» = C.Linear; output = (fin false 1 (pos 0)); bypass = false } ∷ record { source = P.Source 3; «source_curve» = C.Linear; amount = (fin false 1 (negsuc 0)); polarity = Q.Unipolar; destination = M.At (A.LfoBus 3 0); aux = P.Nothing; «aux_invert» = false; «aux_curve» = C.Linear; output = (fin false 1 (pos 0)); bypass = false } ∷ record { source = P.Source 2; «source_curve» = C.Table (fin false 1 (negsuc 0)) (fin false 10497613 (negsuc 20)); amount = (fin true 1 (pos 0)); polarity = Q.Unipolar; destination = M.At (A.Param 14); aux = P.Nothing; «aux_invert» = false; «aux_curve» = C.Linear; output = (fin false 1 (pos 0)); bypass = false } ∷ record { source = P.Source 1; «source_curve» = C.Table (fin false 9624269 (negsuc 19)) (fin false 0 (pos 0)); amount = (fin false 1 (pos 0)); polarity = Q.Unipolar; destination = M.At (A.Param 7); aux = P.Source 1; «aux_invert» = true; «aux_curve» = C.Table (fin false 1 (negsuc 5)) (fin false 6617445 (pos 77)); output = (fin false 1 (pos 0)); bypass = false } ∷ record { source = P.Source 1; «source_curve» = C.Table (fin false 1 (negsuc 5)) (fin false 0 (pos 0)); amount = (fin false 1 (pos 0)); polarity = Q.Bipolar; destination = M.At (A.Param 14); aux = P.Source 2; «aux_invert» = true; «aux_curve» = C.Table (fin false 1 (negsuc 5)) (fin false 332307 (negsuc 117)); output = (fin true 0 (pos 0)); bypass = false } ∷ record { source = P.Source 1; «source_curve» = C.Linear; amount = (fin true 0 (pos 0)); polarity = Q.Unipolar; destination = M.At (A.Param 14); aux = P.Nothing; «aux_invert» = false; «aux_curve» = C.Linear; output = (fin false 1 (pos 0)); bypass = false } ∷ record { source = P.Source 4; «source_curve» = C.Linear; amount = (fin false 1 (pos 0)); polarity = Q.Unipolar; destination = M.At (A.Param 28); aux = P.Nothing; «aux_invert» = false; «aux_curve» = C.Linear; output = (fin false 1 (pos 0)); bypass = false } ∷ [])
 
-p48 : Compiles w48
+p49 : Compiles w49
     (record { dest = 0; voice = false; audio = false; min = (fin true 1 (pos 0)); max = (fin false 1 (pos 0)); base = B.Set; first = 0; count = 1 } ∷ record { dest = 2; voice = false; audio = false; min = (fin true 0 (pos 0)); max = (fin false 1 (pos 0)); base = B.Output 3; first = 1; count = 3 } ∷ record { dest = 1; voice = false; audio = false; min = (fin false 0 (pos 0)); max = (fin false 1 (pos 0)); base = B.Set; first = 4; count = 1 } ∷ record { dest = 3; voice = true; audio = false; min = (inf true); max = (inf false); base = B.Set; first = 5; count = 1 } ∷ record { dest = 4; voice = true; audio = false; min = (inf true); max = (inf false); base = B.Set; first = 6; count = 1 } ∷ [])
     5
     (record { slot = 0; source = record { read = D.Held 0 true; bipolar = false; table = false; slew = L.Free }; aux = X.Missing; «aux_invert» = false; bipolar = true; amount = G.Live; output = G.Live; voice = true; scale = (fin false 1 (pos 1)); offset = (fin true 1 (pos 0)); simple = false } ∷ record { slot = 2; source = record { read = D.Held 2 true; bipolar = false; table = true; slew = L.Limit (fin false 1 (negsuc 4)) (fin false 6703309 (negsuc 30)) }; aux = X.Missing; «aux_invert» = false; bipolar = false; amount = G.Live; output = G.Live; voice = true; scale = (fin false 1 (pos 0)); offset = (fin false 0 (pos 0)); simple = false } ∷ record { slot = 4; source = record { read = D.Held 1 false; bipolar = false; table = true; slew = L.Limit (fin false 1 (pos 0)) (inf false) }; aux = X.With (record { read = D.Held 2 true; bipolar = false; table = true; slew = L.Limit (fin false 1 (pos 0)) (fin false 6617445 (pos 71)) }); «aux_invert» = true; bipolar = true; amount = G.Live; output = G.Live; voice = true; scale = (fin false 1 (pos 1)); offset = (fin true 1 (pos 0)); simple = false } ∷ record { slot = 5; source = record { read = D.Held 1 false; bipolar = false; table = false; slew = L.Free }; aux = X.Missing; «aux_invert» = false; bipolar = false; amount = G.Live; output = G.Live; voice = false; scale = (fin false 1 (pos 0)); offset = (fin false 0 (pos 0)); simple = false } ∷ record { slot = 3; source = record { read = D.Held 1 false; bipolar = false; table = true; slew = L.Limit (fin false 14623187 (negsuc 32)) (inf false) }; aux = X.With (record { read = D.Held 1 false; bipolar = false; table = true; slew = L.Limit (fin false 1 (pos 0)) (fin false 332307 (negsuc 123)) }); «aux_invert» = true; bipolar = false; amount = G.Live; output = G.Fed 1 false; voice = false; scale = (fin false 1 (pos 0)); offset = (fin false 0 (pos 0)); simple = false } ∷ record { slot = 1; source = record { read = D.Held 3 true; bipolar = false; table = false; slew = L.Free }; aux = X.Missing; «aux_invert» = false; bipolar = false; amount = G.Live; output = G.Live; voice = true; scale = (fin false 1 (pos 0)); offset = (fin false 0 (pos 0)); simple = true } ∷ record { slot = 6; source = record { read = D.Held 4 true; bipolar = true; table = false; slew = L.Free }; aux = X.Missing; «aux_invert» = false; bipolar = false; amount = G.Live; output = G.Live; voice = true; scale = (fin false 1 (negsuc 0)); offset = (fin false 1 (negsuc 0)); simple = true } ∷ [])
-    ([])
-unfolding w48 targetPlace verdict candidatesFrom skippedFrom candidates skippedOf inUse countedFeed feederOf reads hearsAudio isAudio controls audios planOrder planPlace readOf slewFor inputOf routeOf routesInto planOf plansOf allRoutes order secondsOf ratePerSample max32 isNan lt eq mul div
-p48 = (refl, refl, refl, refl)
-
--- gen.py 45
-w49 : Wiring
-w49 =
-    wired (fin false 1 (pos 6))
-    (source (K.Held) S.Global R.Unipolar ∷ source (K.Held) S.Global R.Unipolar ∷ source (K.Signal) S.Global R.Unipolar ∷ source (K.Held) S.Global R.Unipolar ∷ source (K.ReleaseVelocity) S.Voice R.Unipolar ∷ [])
-    (record { target = (A.Param 0); scope = S.Voice; rate = T.Control; min = (fin false 0 (pos 0)); max = (fin false 1 (pos 0)); feed = F.Nothing } ∷ record { target = (A.Param 7); scope = S.Voice; rate = T.Control; min = (inf true); max = (inf false); feed = (F.Amount 0) } ∷ record { target = (A.Param 14); scope = S.Global; rate = T.Control; min = (fin false 0 (pos 0)); max = (fin false 1 (pos 0)); feed = (F.Amount 0) } ∷ record { target = (A.LfoBus 3 0); scope = S.Global; rate = T.Audio; min = (inf true); max = (inf false); feed = (F.Source 1) } ∷ record { target = (A.Param 28); scope = S.Global; rate = T.Adaptive; min = (fin false 0 (pos 0)); max = (fin false 1 (pos 0)); feed = (F.Amount 1) } ∷ record { target = (A.LfoBus 5 0); scope = S.Global; rate = T.Control; min = (fin false 12786621 (negsuc 25)); max = (fin false 1248367 (negsuc 19)); feed = F.Nothing } ∷ record { target = (A.Param 42); scope = S.Global; rate = T.Control; min = (inf true); max = (inf false); feed = F.Nothing } ∷ [])
-    (record { source = P.Source 4; «source_curve» = C.Linear; amount = (fin false 8927507 (negsuc 23)); polarity = Q.Bipolar; destination = M.At (A.Param 28); aux = P.Nothing; «aux_invert» = false; «aux_curve» = C.Linear; output = (fin false 1 (pos 0)); bypass = false } ∷ record { source = P.Source 3; «source_curve» = C.Linear; amount = (fin false 9400281 (negsuc 26)); polarity = Q.Unipolar; destination = M.At (A.Param 14); aux = P.Nothing; «aux_invert» = false; «aux_curve» = C.Linear; output = (fin false 1 (pos 0)); bypass = false } ∷ [])
-
-p49 : Compiles w49
-    (record { dest = 2; voice = false; audio = false; min = (fin false 0 (pos 0)); max = (fin false 1 (pos 0)); base = B.Amount 0; first = 0; count = 1 } ∷ record { dest = 4; voice = false; audio = false; min = (fin false 0 (pos 0)); max = (fin false 1 (pos 0)); base = B.Amount 1; first = 1; count = 1 } ∷ [])
-    2
-    (record { slot = 1; source = record { read = D.Held 3 false; bipolar = false; table = false; slew = L.Free }; aux = X.Missing; «aux_invert» = false; bipolar = false; amount = G.Fed 1 false; output = G.Live; voice = false; scale = (fin false 1 (pos 0)); offset = (fin false 0 (pos 0)); simple = false } ∷ record { slot = 0; source = record { read = D.Held 4 true; bipolar = false; table = false; slew = L.Free }; aux = X.Missing; «aux_invert» = false; bipolar = true; amount = G.Fed 0 false; output = G.Live; voice = true; scale = (fin false 1 (pos 1)); offset = (fin true 1 (pos 0)); simple = false } ∷ [])
     ([])
 unfolding w49 targetPlace verdict candidatesFrom skippedFrom candidates skippedOf inUse countedFeed feederOf reads hearsAudio isAudio controls audios planOrder planPlace readOf slewFor inputOf routeOf routesInto planOf plansOf allRoutes order secondsOf ratePerSample max32 isNan lt eq mul div
 p49 = (refl, refl, refl, refl)
@@ -868,12 +868,12 @@ w50 =
     wired (fin false 1 (pos 6))
     (source (K.Held) S.Global R.Unipolar ∷ source (K.Held) S.Global R.Unipolar ∷ source (K.Signal) S.Global R.Unipolar ∷ source (K.Held) S.Global R.Unipolar ∷ source (K.ReleaseVelocity) S.Voice R.Unipolar ∷ [])
     (record { target = (A.Param 0); scope = S.Voice; rate = T.Control; min = (fin false 0 (pos 0)); max = (fin false 1 (pos 0)); feed = F.Nothing } ∷ record { target = (A.Param 7); scope = S.Voice; rate = T.Control; min = (inf true); max = (inf false); feed = (F.Amount 0) } ∷ record { target = (A.Param 14); scope = S.Global; rate = T.Control; min = (fin false 0 (pos 0)); max = (fin false 1 (pos 0)); feed = (F.Amount 0) } ∷ record { target = (A.LfoBus 3 0); scope = S.Global; rate = T.Audio; min = (inf true); max = (inf false); feed = (F.Source 1) } ∷ record { target = (A.Param 28); scope = S.Global; rate = T.Adaptive; min = (fin false 0 (pos 0)); max = (fin false 1 (pos 0)); feed = (F.Amount 1) } ∷ record { target = (A.LfoBus 5 0); scope = S.Global; rate = T.Control; min = (fin false 12786621 (negsuc 25)); max = (fin false 1248367 (negsuc 19)); feed = F.Nothing } ∷ record { target = (A.Param 42); scope = S.Global; rate = T.Control; min = (inf true); max = (inf false); feed = F.Nothing } ∷ [])
-    (record { source = P.Source 2; «source_curve» = C.Linear; amount = (fin false 1 (pos 0)); polarity = Q.Unipolar; destination = M.At (A.Param 7); aux = P.Source 3; «aux_invert» = false; «aux_curve» = C.Linear; output = (fin false 1 (pos 0)); bypass = false } ∷ record { source = P.Source 1; «source_curve» = C.Table (fin false 0 (pos 0)) (fin false 0 (pos 0)); amount = (fin false 1 (pos 0)); polarity = Q.Bipolar; destination = M.At (A.Param 28); aux = P.Nothing; «aux_invert» = false; «aux_curve» = C.Linear; output = (fin false 14591193 (negsuc 23)); bypass = false } ∷ record { source = P.Source 1; «source_curve» = C.Linear; amount = (fin false 413445 (negsuc 18)); polarity = Q.Bipolar; destination = M.At (A.LfoBus 5 0); aux = P.Nothing; «aux_invert» = false; «aux_curve» = C.Linear; output = (fin false 1 (pos 0)); bypass = false } ∷ [])
+    (record { source = P.Source 4; «source_curve» = C.Linear; amount = (fin false 8927507 (negsuc 23)); polarity = Q.Bipolar; destination = M.At (A.Param 28); aux = P.Nothing; «aux_invert» = false; «aux_curve» = C.Linear; output = (fin false 1 (pos 0)); bypass = false } ∷ record { source = P.Source 3; «source_curve» = C.Linear; amount = (fin false 9400281 (negsuc 26)); polarity = Q.Unipolar; destination = M.At (A.Param 14); aux = P.Nothing; «aux_invert» = false; «aux_curve» = C.Linear; output = (fin false 1 (pos 0)); bypass = false } ∷ [])
 
 p50 : Compiles w50
-    (record { dest = 1; voice = true; audio = false; min = (inf true); max = (inf false); base = B.Amount 0; first = 0; count = 1 } ∷ record { dest = 4; voice = false; audio = false; min = (fin false 0 (pos 0)); max = (fin false 1 (pos 0)); base = B.Amount 1; first = 1; count = 1 } ∷ record { dest = 5; voice = false; audio = false; min = (fin false 12786621 (negsuc 25)); max = (fin false 1248367 (negsuc 19)); base = B.Set; first = 2; count = 1 } ∷ [])
-    3
-    (record { slot = 0; source = record { read = D.Signal 2 false; bipolar = false; table = false; slew = L.Free }; aux = X.With (record { read = D.Held 3 false; bipolar = false; table = false; slew = L.Free }); «aux_invert» = false; bipolar = false; amount = G.Fed 0 true; output = G.Live; voice = true; scale = (fin false 1 (pos 0)); offset = (fin false 0 (pos 0)); simple = false } ∷ record { slot = 1; source = record { read = D.Held 1 false; bipolar = false; table = true; slew = L.Free }; aux = X.Missing; «aux_invert» = false; bipolar = true; amount = G.Fed 1 false; output = G.Live; voice = false; scale = (fin false 1 (pos 1)); offset = (fin true 1 (pos 0)); simple = false } ∷ record { slot = 2; source = record { read = D.Held 1 false; bipolar = false; table = false; slew = L.Free }; aux = X.Missing; «aux_invert» = false; bipolar = true; amount = G.Live; output = G.Live; voice = false; scale = (fin false 1 (pos 1)); offset = (fin true 1 (pos 0)); simple = false } ∷ [])
+    (record { dest = 2; voice = false; audio = false; min = (fin false 0 (pos 0)); max = (fin false 1 (pos 0)); base = B.Amount 0; first = 0; count = 1 } ∷ record { dest = 4; voice = false; audio = false; min = (fin false 0 (pos 0)); max = (fin false 1 (pos 0)); base = B.Amount 1; first = 1; count = 1 } ∷ [])
+    2
+    (record { slot = 1; source = record { read = D.Held 3 false; bipolar = false; table = false; slew = L.Free }; aux = X.Missing; «aux_invert» = false; bipolar = false; amount = G.Fed 1 false; output = G.Live; voice = false; scale = (fin false 1 (pos 0)); offset = (fin false 0 (pos 0)); simple = false } ∷ record { slot = 0; source = record { read = D.Held 4 true; bipolar = false; table = false; slew = L.Free }; aux = X.Missing; «aux_invert» = false; bipolar = true; amount = G.Fed 0 false; output = G.Live; voice = true; scale = (fin false 1 (pos 1)); offset = (fin true 1 (pos 0)); simple = false } ∷ [])
     ([])
 unfolding w50 targetPlace verdict candidatesFrom skippedFrom candidates skippedOf inUse countedFeed feederOf reads hearsAudio isAudio controls audios planOrder planPlace readOf slewFor inputOf routeOf routesInto planOf plansOf allRoutes order secondsOf ratePerSample max32 isNan lt eq mul div
 p50 = (refl, refl, refl, refl)
@@ -884,28 +884,28 @@ w51 =
     wired (fin false 1 (pos 6))
     (source (K.Held) S.Global R.Unipolar ∷ source (K.Held) S.Global R.Unipolar ∷ source (K.Signal) S.Global R.Unipolar ∷ source (K.Held) S.Global R.Unipolar ∷ source (K.ReleaseVelocity) S.Voice R.Unipolar ∷ [])
     (record { target = (A.Param 0); scope = S.Voice; rate = T.Control; min = (fin false 0 (pos 0)); max = (fin false 1 (pos 0)); feed = F.Nothing } ∷ record { target = (A.Param 7); scope = S.Voice; rate = T.Control; min = (inf true); max = (inf false); feed = (F.Amount 0) } ∷ record { target = (A.Param 14); scope = S.Global; rate = T.Control; min = (fin false 0 (pos 0)); max = (fin false 1 (pos 0)); feed = (F.Amount 0) } ∷ record { target = (A.LfoBus 3 0); scope = S.Global; rate = T.Audio; min = (inf true); max = (inf false); feed = (F.Source 1) } ∷ record { target = (A.Param 28); scope = S.Global; rate = T.Adaptive; min = (fin false 0 (pos 0)); max = (fin false 1 (pos 0)); feed = (F.Amount 1) } ∷ record { target = (A.LfoBus 5 0); scope = S.Global; rate = T.Control; min = (fin false 12786621 (negsuc 25)); max = (fin false 1248367 (negsuc 19)); feed = F.Nothing } ∷ record { target = (A.Param 42); scope = S.Global; rate = T.Control; min = (inf true); max = (inf false); feed = F.Nothing } ∷ [])
-    (record { source = P.Source 2; «source_curve» = C.Linear; amount = (fin false 1 (pos 0)); polarity = Q.Unipolar; destination = M.At (A.Param 7); aux = P.Source 3; «aux_invert» = false; «aux_curve» = C.Linear; output = (fin false 1 (pos 0)); bypass = false } ∷ record { source = P.Source 2; «source_curve» = C.Table (fin false 0 (pos 0)) (fin false 0 (pos 0)); amount = (fin false 0 (pos 0)); polarity = Q.Bipolar; destination = M.At (A.LfoBus 3 0); aux = P.Source 1; «aux_invert» = false; «aux_curve» = C.Linear; output = (fin false 1 (negsuc 0)); bypass = false } ∷ record { source = P.Source 1; «source_curve» = C.Table (fin false 6617445 (pos 77)) (fin false 5368709 (negsuc 28)); amount = (fin true 1 (pos 0)); polarity = Q.Bipolar; destination = M.At (A.Param 28); aux = P.Source 1; «aux_invert» = false; «aux_curve» = C.Linear; output = (fin false 1055485 (negsuc 23)); bypass = false } ∷ [])
+    (record { source = P.Source 2; «source_curve» = C.Linear; amount = (fin false 1 (pos 0)); polarity = Q.Unipolar; destination = M.At (A.Param 7); aux = P.Source 3; «aux_invert» = false; «aux_curve» = C.Linear; output = (fin false 1 (pos 0)); bypass = false } ∷ record { source = P.Source 1; «source_curve» = C.Table (fin false 0 (pos 0)) (fin false 0 (pos 0)); amount = (fin false 1 (pos 0)); polarity = Q.Bipolar; destination = M.At (A.Param 28); aux = P.Nothing; «aux_invert» = false; «aux_curve» = C.Linear; output = (fin false 14591193 (negsuc 23)); bypass = false } ∷ record { source = P.Source 1; «source_curve» = C.Linear; amount = (fin false 413445 (negsuc 18)); polarity = Q.Bipolar; destination = M.At (A.LfoBus 5 0); aux = P.Nothing; «aux_invert» = false; «aux_curve» = C.Linear; output = (fin false 1 (pos 0)); bypass = false } ∷ [])
 
 p51 : Compiles w51
-    (record { dest = 1; voice = true; audio = false; min = (inf true); max = (inf false); base = B.Amount 0; first = 0; count = 1 } ∷ record { dest = 3; voice = false; audio = false; min = (inf true); max = (inf false); base = B.Held 1; first = 1; count = 1 } ∷ record { dest = 4; voice = false; audio = false; min = (fin false 0 (pos 0)); max = (fin false 1 (pos 0)); base = B.Amount 1; first = 2; count = 1 } ∷ [])
+    (record { dest = 1; voice = true; audio = false; min = (inf true); max = (inf false); base = B.Amount 0; first = 0; count = 1 } ∷ record { dest = 4; voice = false; audio = false; min = (fin false 0 (pos 0)); max = (fin false 1 (pos 0)); base = B.Amount 1; first = 1; count = 1 } ∷ record { dest = 5; voice = false; audio = false; min = (fin false 12786621 (negsuc 25)); max = (fin false 1248367 (negsuc 19)); base = B.Set; first = 2; count = 1 } ∷ [])
     3
-    (record { slot = 0; source = record { read = D.Signal 2 false; bipolar = false; table = false; slew = L.Free }; aux = X.With (record { read = D.Held 3 false; bipolar = false; table = false; slew = L.Free }); «aux_invert» = false; bipolar = false; amount = G.Fed 0 true; output = G.Live; voice = true; scale = (fin false 1 (pos 0)); offset = (fin false 0 (pos 0)); simple = false } ∷ record { slot = 1; source = record { read = D.Signal 2 false; bipolar = false; table = true; slew = L.Free }; aux = X.With (record { read = D.Fed 1 false; bipolar = false; table = false; slew = L.Free }); «aux_invert» = false; bipolar = true; amount = G.Fed 2 false; output = G.Live; voice = false; scale = (fin false 1 (pos 1)); offset = (fin true 1 (pos 0)); simple = false } ∷ record { slot = 2; source = record { read = D.Fed 1 false; bipolar = false; table = true; slew = L.Limit (fin false 332307 (negsuc 123)) (fin false 25 (negsuc 3)) }; aux = X.With (record { read = D.Fed 1 false; bipolar = false; table = false; slew = L.Free }); «aux_invert» = false; bipolar = true; amount = G.Live; output = G.Live; voice = false; scale = (fin false 1 (pos 1)); offset = (fin true 1 (pos 0)); simple = false } ∷ [])
+    (record { slot = 0; source = record { read = D.Signal 2 false; bipolar = false; table = false; slew = L.Free }; aux = X.With (record { read = D.Held 3 false; bipolar = false; table = false; slew = L.Free }); «aux_invert» = false; bipolar = false; amount = G.Fed 0 true; output = G.Live; voice = true; scale = (fin false 1 (pos 0)); offset = (fin false 0 (pos 0)); simple = false } ∷ record { slot = 1; source = record { read = D.Held 1 false; bipolar = false; table = true; slew = L.Free }; aux = X.Missing; «aux_invert» = false; bipolar = true; amount = G.Fed 1 false; output = G.Live; voice = false; scale = (fin false 1 (pos 1)); offset = (fin true 1 (pos 0)); simple = false } ∷ record { slot = 2; source = record { read = D.Held 1 false; bipolar = false; table = false; slew = L.Free }; aux = X.Missing; «aux_invert» = false; bipolar = true; amount = G.Live; output = G.Live; voice = false; scale = (fin false 1 (pos 1)); offset = (fin true 1 (pos 0)); simple = false } ∷ [])
     ([])
 unfolding w51 targetPlace verdict candidatesFrom skippedFrom candidates skippedOf inUse countedFeed feederOf reads hearsAudio isAudio controls audios planOrder planPlace readOf slewFor inputOf routeOf routesInto planOf plansOf allRoutes order secondsOf ratePerSample max32 isNan lt eq mul div
 p51 = (refl, refl, refl, refl)
 
--- gen.py 47
+-- gen.py 45
 w52 : Wiring
 w52 =
-    wired (fin false 1 (pos 0))
-    (source (K.Held) S.Global R.Unipolar ∷ source (K.Held) S.Global R.Unipolar ∷ source (K.Held) S.Global R.Unipolar ∷ source (K.Constant) S.Global R.Bipolar ∷ source (K.RandomPerRoute) S.Voice R.Unipolar ∷ source (K.Held) S.Global R.Unipolar ∷ source (K.Key) S.Voice R.Unipolar ∷ source (K.Held) S.Voice R.Unipolar ∷ source (K.Held) S.Global R.Unipolar ∷ source (K.Audio) S.Voice R.Bipolar ∷ source (K.Held) S.Global R.Unipolar ∷ [])
-    (record { target = (A.Param 0); scope = S.Voice; rate = T.Control; min = (inf true); max = (fin false 0 (pos 0)); feed = (F.Amount 0) } ∷ record { target = (A.Param 7); scope = S.Global; rate = T.Adaptive; min = (fin false 11577881 (negsuc 22)); max = (inf false); feed = F.Nothing } ∷ record { target = (A.Param 14); scope = S.Voice; rate = T.Control; min = (fin false 2413261 (negsuc 20)); max = (fin false 5764839 (negsuc 20)); feed = (F.Source 8) } ∷ record { target = (A.Param 21); scope = S.Voice; rate = T.Audio; min = (fin false 0 (pos 0)); max = (fin false 1 (pos 0)); feed = (F.Amount 0) } ∷ record { target = (A.LfoBus 4 0); scope = S.Global; rate = T.Control; min = (fin false 0 (pos 0)); max = (fin false 1 (pos 0)); feed = F.Nothing } ∷ record { target = (A.Param 35); scope = S.Global; rate = T.Control; min = (fin false 0 (pos 0)); max = (fin false 1 (pos 0)); feed = (F.Amount 9) } ∷ record { target = (A.Param 42); scope = S.Voice; rate = T.Audio; min = (fin false 0 (pos 0)); max = (fin false 1 (pos 0)); feed = (F.Output 8) } ∷ record { target = (A.Param 49); scope = S.Global; rate = T.Control; min = (inf true); max = (inf false); feed = (F.Amount 0) } ∷ [])
-    (record { source = P.Source 1; «source_curve» = C.Linear; amount = (fin false 0 (pos 0)); polarity = Q.Bipolar; destination = M.At (A.Param 49); aux = P.Nothing; «aux_invert» = false; «aux_curve» = C.Linear; output = (fin false 1 (pos 0)); bypass = false } ∷ record { source = P.Source 7; «source_curve» = C.Linear; amount = (fin false 1 (negsuc 0)); polarity = Q.Unipolar; destination = M.At (A.Param 21); aux = P.Nothing; «aux_invert» = false; «aux_curve» = C.Linear; output = (fin false 1 (negsuc 0)); bypass = false } ∷ record { source = P.Source 8; «source_curve» = C.Table (fin false 0 (pos 0)) (fin false 0 (pos 0)); amount = (fin false 1 (negsuc 0)); polarity = Q.Bipolar; destination = M.At (A.Param 14); aux = P.Nothing; «aux_invert» = false; «aux_curve» = C.Linear; output = (fin false 1 (pos 0)); bypass = true } ∷ record { source = P.Source 8; «source_curve» = C.Linear; amount = (fin false 16323989 (negsuc 24)); polarity = Q.Bipolar; destination = M.At (A.Param 42); aux = P.Nothing; «aux_invert» = false; «aux_curve» = C.Linear; output = (fin false 1 (pos 0)); bypass = false } ∷ record { source = P.Source 8; «source_curve» = C.Table (fin false 0 (pos 0)) (fin false 0 (pos 0)); amount = (fin false 0 (pos 0)); polarity = Q.Unipolar; destination = M.At (A.LfoBus 4 0); aux = P.Nothing; «aux_invert» = false; «aux_curve» = C.Linear; output = (fin false 1 (pos 0)); bypass = false } ∷ record { source = P.Source 6; «source_curve» = C.Table (fin false 0 (pos 0)) (fin false 0 (pos 0)); amount = (fin false 0 (pos 0)); polarity = Q.Unipolar; destination = M.At (A.Param 14); aux = P.Source 9; «aux_invert» = true; «aux_curve» = C.Linear; output = (fin false 1 (pos 0)); bypass = false } ∷ record { source = P.Source 8; «source_curve» = C.Table (fin false 6617445 (pos 77)) (fin false 1 (negsuc 0)); amount = (fin false 1 (negsuc 0)); polarity = Q.Bipolar; destination = M.At (A.Param 42); aux = P.Nothing; «aux_invert» = false; «aux_curve» = C.Linear; output = (fin false 5598635 (negsuc 23)); bypass = true } ∷ record { source = P.Source 8; «source_curve» = C.Linear; amount = (fin false 2633097 (negsuc 21)); polarity = Q.Bipolar; destination = M.At (A.Param 42); aux = P.Nothing; «aux_invert» = false; «aux_curve» = C.Linear; output = (fin false 11375051 (negsuc 24)); bypass = true } ∷ record { source = P.Source 8; «source_curve» = C.Linear; amount = (fin true 1 (pos 0)); polarity = Q.Bipolar; destination = M.At (A.LfoBus 4 0); aux = P.Nothing; «aux_invert» = false; «aux_curve» = C.Linear; output = (fin false 1 (pos 0)); bypass = false } ∷ record { source = P.Nothing; «source_curve» = C.Linear; amount = (fin false 0 (pos 0)); polarity = Q.Unipolar; destination = M.Nothing; aux = P.Nothing; «aux_invert» = false; «aux_curve» = C.Linear; output = (fin false 1 (pos 0)); bypass = false } ∷ record { source = P.Source 8; «source_curve» = C.Table (fin false 0 (pos 0)) (fin false 0 (pos 0)); amount = (fin true 1 (pos 0)); polarity = Q.Unipolar; destination = M.At (A.Param 42); aux = P.Nothing; «aux_invert» = false; «aux_curve» = C.Linear; output = (fin false 1 (pos 0)); bypass = false } ∷ record { source = P.Source 8; «source_curve» = C.Table (fin false 0 (pos 0)) (fin false 0 (pos 0)); amount = (fin false 1485869 (negsuc 20)); polarity = Q.Unipolar; destination = M.At (A.LfoBus 4 0); aux = P.Nothing; «aux_invert» = false; «aux_curve» = C.Linear; output = (fin false 1 (pos 0)); bypass = false } ∷ [])
+    wired (fin false 1 (pos 6))
+    (source (K.Held) S.Global R.Unipolar ∷ source (K.Held) S.Global R.Unipolar ∷ source (K.Signal) S.Global R.Unipolar ∷ source (K.Held) S.Global R.Unipolar ∷ source (K.ReleaseVelocity) S.Voice R.Unipolar ∷ [])
+    (record { target = (A.Param 0); scope = S.Voice; rate = T.Control; min = (fin false 0 (pos 0)); max = (fin false 1 (pos 0)); feed = F.Nothing } ∷ record { target = (A.Param 7); scope = S.Voice; rate = T.Control; min = (inf true); max = (inf false); feed = (F.Amount 0) } ∷ record { target = (A.Param 14); scope = S.Global; rate = T.Control; min = (fin false 0 (pos 0)); max = (fin false 1 (pos 0)); feed = (F.Amount 0) } ∷ record { target = (A.LfoBus 3 0); scope = S.Global; rate = T.Audio; min = (inf true); max = (inf false); feed = (F.Source 1) } ∷ record { target = (A.Param 28); scope = S.Global; rate = T.Adaptive; min = (fin false 0 (pos 0)); max = (fin false 1 (pos 0)); feed = (F.Amount 1) } ∷ record { target = (A.LfoBus 5 0); scope = S.Global; rate = T.Control; min = (fin false 12786621 (negsuc 25)); max = (fin false 1248367 (negsuc 19)); feed = F.Nothing } ∷ record { target = (A.Param 42); scope = S.Global; rate = T.Control; min = (inf true); max = (inf false); feed = F.Nothing } ∷ [])
+    (record { source = P.Source 2; «source_curve» = C.Linear; amount = (fin false 1 (pos 0)); polarity = Q.Unipolar; destination = M.At (A.Param 7); aux = P.Source 3; «aux_invert» = false; «aux_curve» = C.Linear; output = (fin false 1 (pos 0)); bypass = false } ∷ record { source = P.Source 2; «source_curve» = C.Table (fin false 0 (pos 0)) (fin false 0 (pos 0)); amount = (fin false 0 (pos 0)); polarity = Q.Bipolar; destination = M.At (A.LfoBus 3 0); aux = P.Source 1; «aux_invert» = false; «aux_curve» = C.Linear; output = (fin false 1 (negsuc 0)); bypass = false } ∷ record { source = P.Source 1; «source_curve» = C.Table (fin false 6617445 (pos 77)) (fin false 5368709 (negsuc 28)); amount = (fin true 1 (pos 0)); polarity = Q.Bipolar; destination = M.At (A.Param 28); aux = P.Source 1; «aux_invert» = false; «aux_curve» = C.Linear; output = (fin false 1055485 (negsuc 23)); bypass = false } ∷ [])
 
 p52 : Compiles w52
-    (record { dest = 2; voice = true; audio = false; min = (fin false 2413261 (negsuc 20)); max = (fin false 5764839 (negsuc 20)); base = B.Held 8; first = 0; count = 1 } ∷ record { dest = 3; voice = true; audio = false; min = (fin false 0 (pos 0)); max = (fin false 1 (pos 0)); base = B.Amount 0; first = 1; count = 1 } ∷ record { dest = 6; voice = true; audio = false; min = (fin false 0 (pos 0)); max = (fin false 1 (pos 0)); base = B.Output 8; first = 2; count = 2 } ∷ record { dest = 4; voice = false; audio = false; min = (fin false 0 (pos 0)); max = (fin false 1 (pos 0)); base = B.Set; first = 4; count = 3 } ∷ record { dest = 7; voice = false; audio = false; min = (inf true); max = (inf false); base = B.Amount 0; first = 7; count = 1 } ∷ [])
-    5
-    (record { slot = 5; source = record { read = D.Held 6 true; bipolar = false; table = true; slew = L.Free }; aux = X.With (record { read = D.Signal 9 true; bipolar = true; table = false; slew = L.Free }); «aux_invert» = true; bipolar = false; amount = G.Live; output = G.Live; voice = true; scale = (fin false 1 (pos 0)); offset = (fin false 0 (pos 0)); simple = false } ∷ record { slot = 1; source = record { read = D.Held 7 true; bipolar = false; table = false; slew = L.Free }; aux = X.Missing; «aux_invert» = false; bipolar = false; amount = G.Live; output = G.Live; voice = true; scale = (fin false 1 (pos 0)); offset = (fin false 0 (pos 0)); simple = true } ∷ record { slot = 3; source = record { read = D.Fed 0 true; bipolar = false; table = false; slew = L.Free }; aux = X.Missing; «aux_invert» = false; bipolar = true; amount = G.Live; output = G.Live; voice = true; scale = (fin false 1 (pos 1)); offset = (fin true 1 (pos 0)); simple = true } ∷ record { slot = 10; source = record { read = D.Fed 0 true; bipolar = false; table = true; slew = L.Free }; aux = X.Missing; «aux_invert» = false; bipolar = false; amount = G.Live; output = G.Live; voice = true; scale = (fin false 1 (pos 0)); offset = (fin false 0 (pos 0)); simple = false } ∷ record { slot = 4; source = record { read = D.Fed 0 true; bipolar = false; table = true; slew = L.Free }; aux = X.Missing; «aux_invert» = false; bipolar = false; amount = G.Live; output = G.Live; voice = true; scale = (fin false 1 (pos 0)); offset = (fin false 0 (pos 0)); simple = false } ∷ record { slot = 8; source = record { read = D.Fed 0 true; bipolar = false; table = false; slew = L.Free }; aux = X.Missing; «aux_invert» = false; bipolar = true; amount = G.Live; output = G.Fed 2 true; voice = true; scale = (fin false 1 (pos 1)); offset = (fin true 1 (pos 0)); simple = false } ∷ record { slot = 11; source = record { read = D.Fed 0 true; bipolar = false; table = true; slew = L.Free }; aux = X.Missing; «aux_invert» = false; bipolar = false; amount = G.Live; output = G.Live; voice = true; scale = (fin false 1 (pos 0)); offset = (fin false 0 (pos 0)); simple = false } ∷ record { slot = 0; source = record { read = D.Held 1 false; bipolar = false; table = false; slew = L.Free }; aux = X.Missing; «aux_invert» = false; bipolar = true; amount = G.Fed 4 false; output = G.Live; voice = false; scale = (fin false 1 (pos 1)); offset = (fin true 1 (pos 0)); simple = false } ∷ [])
+    (record { dest = 1; voice = true; audio = false; min = (inf true); max = (inf false); base = B.Amount 0; first = 0; count = 1 } ∷ record { dest = 3; voice = false; audio = false; min = (inf true); max = (inf false); base = B.Held 1; first = 1; count = 1 } ∷ record { dest = 4; voice = false; audio = false; min = (fin false 0 (pos 0)); max = (fin false 1 (pos 0)); base = B.Amount 1; first = 2; count = 1 } ∷ [])
+    3
+    (record { slot = 0; source = record { read = D.Signal 2 false; bipolar = false; table = false; slew = L.Free }; aux = X.With (record { read = D.Held 3 false; bipolar = false; table = false; slew = L.Free }); «aux_invert» = false; bipolar = false; amount = G.Fed 0 true; output = G.Live; voice = true; scale = (fin false 1 (pos 0)); offset = (fin false 0 (pos 0)); simple = false } ∷ record { slot = 1; source = record { read = D.Signal 2 false; bipolar = false; table = true; slew = L.Free }; aux = X.With (record { read = D.Fed 1 false; bipolar = false; table = false; slew = L.Free }); «aux_invert» = false; bipolar = true; amount = G.Fed 2 false; output = G.Live; voice = false; scale = (fin false 1 (pos 1)); offset = (fin true 1 (pos 0)); simple = false } ∷ record { slot = 2; source = record { read = D.Fed 1 false; bipolar = false; table = true; slew = L.Limit (fin false 332307 (negsuc 123)) (fin false 25 (negsuc 3)) }; aux = X.With (record { read = D.Fed 1 false; bipolar = false; table = false; slew = L.Free }); «aux_invert» = false; bipolar = true; amount = G.Live; output = G.Live; voice = false; scale = (fin false 1 (pos 1)); offset = (fin true 1 (pos 0)); simple = false } ∷ [])
     ([])
 unfolding w52 targetPlace verdict candidatesFrom skippedFrom candidates skippedOf inUse countedFeed feederOf reads hearsAudio isAudio controls audios planOrder planPlace readOf slewFor inputOf routeOf routesInto planOf plansOf allRoutes order secondsOf ratePerSample max32 isNan lt eq mul div
 p52 = (refl, refl, refl, refl)
@@ -916,156 +916,172 @@ w53 =
     wired (fin false 1 (pos 0))
     (source (K.Held) S.Global R.Unipolar ∷ source (K.Held) S.Global R.Unipolar ∷ source (K.Held) S.Global R.Unipolar ∷ source (K.Constant) S.Global R.Bipolar ∷ source (K.RandomPerRoute) S.Voice R.Unipolar ∷ source (K.Held) S.Global R.Unipolar ∷ source (K.Key) S.Voice R.Unipolar ∷ source (K.Held) S.Voice R.Unipolar ∷ source (K.Held) S.Global R.Unipolar ∷ source (K.Audio) S.Voice R.Bipolar ∷ source (K.Held) S.Global R.Unipolar ∷ [])
     (record { target = (A.Param 0); scope = S.Voice; rate = T.Control; min = (inf true); max = (fin false 0 (pos 0)); feed = (F.Amount 0) } ∷ record { target = (A.Param 7); scope = S.Global; rate = T.Adaptive; min = (fin false 11577881 (negsuc 22)); max = (inf false); feed = F.Nothing } ∷ record { target = (A.Param 14); scope = S.Voice; rate = T.Control; min = (fin false 2413261 (negsuc 20)); max = (fin false 5764839 (negsuc 20)); feed = (F.Source 8) } ∷ record { target = (A.Param 21); scope = S.Voice; rate = T.Audio; min = (fin false 0 (pos 0)); max = (fin false 1 (pos 0)); feed = (F.Amount 0) } ∷ record { target = (A.LfoBus 4 0); scope = S.Global; rate = T.Control; min = (fin false 0 (pos 0)); max = (fin false 1 (pos 0)); feed = F.Nothing } ∷ record { target = (A.Param 35); scope = S.Global; rate = T.Control; min = (fin false 0 (pos 0)); max = (fin false 1 (pos 0)); feed = (F.Amount 9) } ∷ record { target = (A.Param 42); scope = S.Voice; rate = T.Audio; min = (fin false 0 (pos 0)); max = (fin false 1 (pos 0)); feed = (F.Output 8) } ∷ record { target = (A.Param 49); scope = S.Global; rate = T.Control; min = (inf true); max = (inf false); feed = (F.Amount 0) } ∷ [])
-    (record { source = P.Source 4; «source_curve» = C.Linear; amount = (fin true 15177187 (negsuc 24)); polarity = Q.Bipolar; destination = M.At (A.Param 49); aux = P.Nothing; «aux_invert» = false; «aux_curve» = C.Linear; output = (fin false 1 (pos 0)); bypass = false } ∷ record { source = P.Source 7; «source_curve» = C.Linear; amount = (fin false 1 (negsuc 0)); polarity = Q.Unipolar; destination = M.At (A.Param 21); aux = P.Nothing; «aux_invert» = false; «aux_curve» = C.Linear; output = (fin false 1 (negsuc 0)); bypass = false } ∷ record { source = P.Source 8; «source_curve» = C.Table (fin false 0 (pos 0)) (fin false 0 (pos 0)); amount = (fin false 1 (negsuc 0)); polarity = Q.Bipolar; destination = M.At (A.Param 14); aux = P.Nothing; «aux_invert» = false; «aux_curve» = C.Linear; output = (fin false 1 (pos 0)); bypass = true } ∷ record { source = P.Source 8; «source_curve» = C.Linear; amount = (fin false 16323989 (negsuc 24)); polarity = Q.Bipolar; destination = M.At (A.Param 42); aux = P.Nothing; «aux_invert» = false; «aux_curve» = C.Linear; output = (fin false 1 (pos 0)); bypass = false } ∷ record { source = P.Source 8; «source_curve» = C.Table (fin false 0 (pos 0)) (fin false 0 (pos 0)); amount = (fin false 0 (pos 0)); polarity = Q.Unipolar; destination = M.At (A.LfoBus 4 0); aux = P.Nothing; «aux_invert» = false; «aux_curve» = C.Linear; output = (fin false 1 (pos 0)); bypass = false } ∷ record { source = P.Source 6; «source_curve» = C.Table (fin false 0 (pos 0)) (fin false 0 (pos 0)); amount = (fin false 0 (pos 0)); polarity = Q.Unipolar; destination = M.At (A.Param 14); aux = P.Source 9; «aux_invert» = true; «aux_curve» = C.Linear; output = (fin false 1 (pos 0)); bypass = false } ∷ record { source = P.Source 8; «source_curve» = C.Table (fin false 6617445 (pos 77)) (fin false 1 (negsuc 0)); amount = (fin false 1 (negsuc 0)); polarity = Q.Bipolar; destination = M.At (A.Param 42); aux = P.Nothing; «aux_invert» = false; «aux_curve» = C.Linear; output = (fin false 5598635 (negsuc 23)); bypass = true } ∷ record { source = P.Source 8; «source_curve» = C.Linear; amount = (fin false 2633097 (negsuc 21)); polarity = Q.Bipolar; destination = M.At (A.Param 42); aux = P.Nothing; «aux_invert» = false; «aux_curve» = C.Linear; output = (fin false 11375051 (negsuc 24)); bypass = true } ∷ record { source = P.Source 10; «source_curve» = C.Table (fin true 0 (pos 0)) (fin false 1 (pos 0)); amount = (fin true 1 (pos 0)); polarity = Q.Bipolar; destination = M.At (A.Param 21); aux = P.Source 3; «aux_invert» = true; «aux_curve» = C.Linear; output = (fin false 1 (pos 0)); bypass = false } ∷ record { source = P.Source 8; «source_curve» = C.Linear; amount = (fin true 13431299 (negsuc 23)); polarity = Q.Unipolar; destination = M.At (A.Param 42); aux = P.Nothing; «aux_invert» = false; «aux_curve» = C.Linear; output = (fin false 1 (pos 0)); bypass = false } ∷ record { source = P.Source 7; «source_curve» = C.Table (fin false 0 (pos 0)) (fin false 1 (pos 5)); amount = (fin false 1 (negsuc 0)); polarity = Q.Bipolar; destination = M.At (A.Param 49); aux = P.Nothing; «aux_invert» = false; «aux_curve» = C.Linear; output = (fin false 1460845 (negsuc 20)); bypass = false } ∷ record { source = P.Source 8; «source_curve» = C.Table (fin false 0 (pos 0)) (fin false 0 (pos 0)); amount = (fin true 1 (pos 0)); polarity = Q.Bipolar; destination = M.At (A.Param 0); aux = P.Nothing; «aux_invert» = false; «aux_curve» = C.Linear; output = (fin false 1 (pos 0)); bypass = false } ∷ [])
+    (record { source = P.Source 1; «source_curve» = C.Linear; amount = (fin false 0 (pos 0)); polarity = Q.Bipolar; destination = M.At (A.Param 49); aux = P.Nothing; «aux_invert» = false; «aux_curve» = C.Linear; output = (fin false 1 (pos 0)); bypass = false } ∷ record { source = P.Source 7; «source_curve» = C.Linear; amount = (fin false 1 (negsuc 0)); polarity = Q.Unipolar; destination = M.At (A.Param 21); aux = P.Nothing; «aux_invert» = false; «aux_curve» = C.Linear; output = (fin false 1 (negsuc 0)); bypass = false } ∷ record { source = P.Source 8; «source_curve» = C.Table (fin false 0 (pos 0)) (fin false 0 (pos 0)); amount = (fin false 1 (negsuc 0)); polarity = Q.Bipolar; destination = M.At (A.Param 14); aux = P.Nothing; «aux_invert» = false; «aux_curve» = C.Linear; output = (fin false 1 (pos 0)); bypass = true } ∷ record { source = P.Source 8; «source_curve» = C.Linear; amount = (fin false 16323989 (negsuc 24)); polarity = Q.Bipolar; destination = M.At (A.Param 42); aux = P.Nothing; «aux_invert» = false; «aux_curve» = C.Linear; output = (fin false 1 (pos 0)); bypass = false } ∷ record { source = P.Source 8; «source_curve» = C.Table (fin false 0 (pos 0)) (fin false 0 (pos 0)); amount = (fin false 0 (pos 0)); polarity = Q.Unipolar; destination = M.At (A.LfoBus 4 0); aux = P.Nothing; «aux_invert» = false; «aux_curve» = C.Linear; output = (fin false 1 (pos 0)); bypass = false } ∷ record { source = P.Source 6; «source_curve» = C.Table (fin false 0 (pos 0)) (fin false 0 (pos 0)); amount = (fin false 0 (pos 0)); polarity = Q.Unipolar; destination = M.At (A.Param 14); aux = P.Source 9; «aux_invert» = true; «aux_curve» = C.Linear; output = (fin false 1 (pos 0)); bypass = false } ∷ record { source = P.Source 8; «source_curve» = C.Table (fin false 6617445 (pos 77)) (fin false 1 (negsuc 0)); amount = (fin false 1 (negsuc 0)); polarity = Q.Bipolar; destination = M.At (A.Param 42); aux = P.Nothing; «aux_invert» = false; «aux_curve» = C.Linear; output = (fin false 5598635 (negsuc 23)); bypass = true } ∷ record { source = P.Source 8; «source_curve» = C.Linear; amount = (fin false 2633097 (negsuc 21)); polarity = Q.Bipolar; destination = M.At (A.Param 42); aux = P.Nothing; «aux_invert» = false; «aux_curve» = C.Linear; output = (fin false 11375051 (negsuc 24)); bypass = true } ∷ record { source = P.Source 8; «source_curve» = C.Linear; amount = (fin true 1 (pos 0)); polarity = Q.Bipolar; destination = M.At (A.LfoBus 4 0); aux = P.Nothing; «aux_invert» = false; «aux_curve» = C.Linear; output = (fin false 1 (pos 0)); bypass = false } ∷ record { source = P.Nothing; «source_curve» = C.Linear; amount = (fin false 0 (pos 0)); polarity = Q.Unipolar; destination = M.Nothing; aux = P.Nothing; «aux_invert» = false; «aux_curve» = C.Linear; output = (fin false 1 (pos 0)); bypass = false } ∷ record { source = P.Source 8; «source_curve» = C.Table (fin false 0 (pos 0)) (fin false 0 (pos 0)); amount = (fin true 1 (pos 0)); polarity = Q.Unipolar; destination = M.At (A.Param 42); aux = P.Nothing; «aux_invert» = false; «aux_curve» = C.Linear; output = (fin false 1 (pos 0)); bypass = false } ∷ record { source = P.Source 8; «source_curve» = C.Table (fin false 0 (pos 0)) (fin false 0 (pos 0)); amount = (fin false 1485869 (negsuc 20)); polarity = Q.Unipolar; destination = M.At (A.LfoBus 4 0); aux = P.Nothing; «aux_invert» = false; «aux_curve» = C.Linear; output = (fin false 1 (pos 0)); bypass = false } ∷ [])
 
 p53 : Compiles w53
-    (record { dest = 2; voice = true; audio = false; min = (fin false 2413261 (negsuc 20)); max = (fin false 5764839 (negsuc 20)); base = B.Held 8; first = 0; count = 1 } ∷ record { dest = 0; voice = true; audio = false; min = (inf true); max = (fin false 0 (pos 0)); base = B.Amount 0; first = 1; count = 1 } ∷ record { dest = 4; voice = false; audio = false; min = (fin false 0 (pos 0)); max = (fin false 1 (pos 0)); base = B.Set; first = 2; count = 1 } ∷ record { dest = 6; voice = true; audio = false; min = (fin false 0 (pos 0)); max = (fin false 1 (pos 0)); base = B.Output 8; first = 3; count = 2 } ∷ record { dest = 3; voice = true; audio = false; min = (fin false 0 (pos 0)); max = (fin false 1 (pos 0)); base = B.Amount 0; first = 5; count = 2 } ∷ record { dest = 7; voice = false; audio = false; min = (inf true); max = (inf false); base = B.Amount 0; first = 7; count = 2 } ∷ [])
-    6
-    (record { slot = 5; source = record { read = D.Held 6 true; bipolar = false; table = true; slew = L.Free }; aux = X.With (record { read = D.Signal 9 true; bipolar = true; table = false; slew = L.Free }); «aux_invert» = true; bipolar = false; amount = G.Live; output = G.Live; voice = true; scale = (fin false 1 (pos 0)); offset = (fin false 0 (pos 0)); simple = false } ∷ record { slot = 11; source = record { read = D.Fed 0 true; bipolar = false; table = true; slew = L.Free }; aux = X.Missing; «aux_invert» = false; bipolar = true; amount = G.Live; output = G.Live; voice = true; scale = (fin false 1 (pos 1)); offset = (fin true 1 (pos 0)); simple = false } ∷ record { slot = 4; source = record { read = D.Fed 0 true; bipolar = false; table = true; slew = L.Free }; aux = X.Missing; «aux_invert» = false; bipolar = false; amount = G.Live; output = G.Live; voice = true; scale = (fin false 1 (pos 0)); offset = (fin false 0 (pos 0)); simple = false } ∷ record { slot = 3; source = record { read = D.Fed 0 true; bipolar = false; table = false; slew = L.Free }; aux = X.Missing; «aux_invert» = false; bipolar = true; amount = G.Live; output = G.Live; voice = true; scale = (fin false 1 (pos 1)); offset = (fin true 1 (pos 0)); simple = true } ∷ record { slot = 9; source = record { read = D.Fed 0 true; bipolar = false; table = false; slew = L.Free }; aux = X.Missing; «aux_invert» = false; bipolar = false; amount = G.Live; output = G.Live; voice = true; scale = (fin false 1 (pos 0)); offset = (fin false 0 (pos 0)); simple = true } ∷ record { slot = 1; source = record { read = D.Held 7 true; bipolar = false; table = false; slew = L.Free }; aux = X.Missing; «aux_invert» = false; bipolar = false; amount = G.Live; output = G.Live; voice = true; scale = (fin false 1 (pos 0)); offset = (fin false 0 (pos 0)); simple = true } ∷ record { slot = 8; source = record { read = D.Held 10 false; bipolar = false; table = true; slew = L.Limit (inf false) (fin false 1 (pos 0)) }; aux = X.With (record { read = D.Constant; bipolar = true; table = false; slew = L.Free }); «aux_invert» = true; bipolar = true; amount = G.Live; output = G.Fed 3 true; voice = true; scale = (fin false 1 (pos 1)); offset = (fin true 1 (pos 0)); simple = false } ∷ record { slot = 0; source = record { read = D.RouteRandom; bipolar = false; table = false; slew = L.Free }; aux = X.Missing; «aux_invert» = false; bipolar = true; amount = G.Fed 5 false; output = G.Live; voice = true; scale = (fin false 1 (pos 1)); offset = (fin true 1 (pos 0)); simple = false } ∷ record { slot = 10; source = record { read = D.Held 7 true; bipolar = false; table = true; slew = L.Limit (inf false) (fin false 1 (negsuc 4)) }; aux = X.Missing; «aux_invert» = false; bipolar = true; amount = G.Live; output = G.Live; voice = true; scale = (fin false 1 (pos 1)); offset = (fin true 1 (pos 0)); simple = false } ∷ [])
+    (record { dest = 2; voice = true; audio = false; min = (fin false 2413261 (negsuc 20)); max = (fin false 5764839 (negsuc 20)); base = B.Held 8; first = 0; count = 1 } ∷ record { dest = 3; voice = true; audio = false; min = (fin false 0 (pos 0)); max = (fin false 1 (pos 0)); base = B.Amount 0; first = 1; count = 1 } ∷ record { dest = 6; voice = true; audio = false; min = (fin false 0 (pos 0)); max = (fin false 1 (pos 0)); base = B.Output 8; first = 2; count = 2 } ∷ record { dest = 4; voice = false; audio = false; min = (fin false 0 (pos 0)); max = (fin false 1 (pos 0)); base = B.Set; first = 4; count = 3 } ∷ record { dest = 7; voice = false; audio = false; min = (inf true); max = (inf false); base = B.Amount 0; first = 7; count = 1 } ∷ [])
+    5
+    (record { slot = 5; source = record { read = D.Held 6 true; bipolar = false; table = true; slew = L.Free }; aux = X.With (record { read = D.Signal 9 true; bipolar = true; table = false; slew = L.Free }); «aux_invert» = true; bipolar = false; amount = G.Live; output = G.Live; voice = true; scale = (fin false 1 (pos 0)); offset = (fin false 0 (pos 0)); simple = false } ∷ record { slot = 1; source = record { read = D.Held 7 true; bipolar = false; table = false; slew = L.Free }; aux = X.Missing; «aux_invert» = false; bipolar = false; amount = G.Live; output = G.Live; voice = true; scale = (fin false 1 (pos 0)); offset = (fin false 0 (pos 0)); simple = true } ∷ record { slot = 3; source = record { read = D.Fed 0 true; bipolar = false; table = false; slew = L.Free }; aux = X.Missing; «aux_invert» = false; bipolar = true; amount = G.Live; output = G.Live; voice = true; scale = (fin false 1 (pos 1)); offset = (fin true 1 (pos 0)); simple = true } ∷ record { slot = 10; source = record { read = D.Fed 0 true; bipolar = false; table = true; slew = L.Free }; aux = X.Missing; «aux_invert» = false; bipolar = false; amount = G.Live; output = G.Live; voice = true; scale = (fin false 1 (pos 0)); offset = (fin false 0 (pos 0)); simple = false } ∷ record { slot = 4; source = record { read = D.Fed 0 true; bipolar = false; table = true; slew = L.Free }; aux = X.Missing; «aux_invert» = false; bipolar = false; amount = G.Live; output = G.Live; voice = true; scale = (fin false 1 (pos 0)); offset = (fin false 0 (pos 0)); simple = false } ∷ record { slot = 8; source = record { read = D.Fed 0 true; bipolar = false; table = false; slew = L.Free }; aux = X.Missing; «aux_invert» = false; bipolar = true; amount = G.Live; output = G.Fed 2 true; voice = true; scale = (fin false 1 (pos 1)); offset = (fin true 1 (pos 0)); simple = false } ∷ record { slot = 11; source = record { read = D.Fed 0 true; bipolar = false; table = true; slew = L.Free }; aux = X.Missing; «aux_invert» = false; bipolar = false; amount = G.Live; output = G.Live; voice = true; scale = (fin false 1 (pos 0)); offset = (fin false 0 (pos 0)); simple = false } ∷ record { slot = 0; source = record { read = D.Held 1 false; bipolar = false; table = false; slew = L.Free }; aux = X.Missing; «aux_invert» = false; bipolar = true; amount = G.Fed 4 false; output = G.Live; voice = false; scale = (fin false 1 (pos 1)); offset = (fin true 1 (pos 0)); simple = false } ∷ [])
     ([])
 unfolding w53 targetPlace verdict candidatesFrom skippedFrom candidates skippedOf inUse countedFeed feederOf reads hearsAudio isAudio controls audios planOrder planPlace readOf slewFor inputOf routeOf routesInto planOf plansOf allRoutes order secondsOf ratePerSample max32 isNan lt eq mul div
 p53 = (refl, refl, refl, refl)
 
--- gen.py 52
+-- gen.py 47
 w54 : Wiring
 w54 =
+    wired (fin false 1 (pos 0))
+    (source (K.Held) S.Global R.Unipolar ∷ source (K.Held) S.Global R.Unipolar ∷ source (K.Held) S.Global R.Unipolar ∷ source (K.Constant) S.Global R.Bipolar ∷ source (K.RandomPerRoute) S.Voice R.Unipolar ∷ source (K.Held) S.Global R.Unipolar ∷ source (K.Key) S.Voice R.Unipolar ∷ source (K.Held) S.Voice R.Unipolar ∷ source (K.Held) S.Global R.Unipolar ∷ source (K.Audio) S.Voice R.Bipolar ∷ source (K.Held) S.Global R.Unipolar ∷ [])
+    (record { target = (A.Param 0); scope = S.Voice; rate = T.Control; min = (inf true); max = (fin false 0 (pos 0)); feed = (F.Amount 0) } ∷ record { target = (A.Param 7); scope = S.Global; rate = T.Adaptive; min = (fin false 11577881 (negsuc 22)); max = (inf false); feed = F.Nothing } ∷ record { target = (A.Param 14); scope = S.Voice; rate = T.Control; min = (fin false 2413261 (negsuc 20)); max = (fin false 5764839 (negsuc 20)); feed = (F.Source 8) } ∷ record { target = (A.Param 21); scope = S.Voice; rate = T.Audio; min = (fin false 0 (pos 0)); max = (fin false 1 (pos 0)); feed = (F.Amount 0) } ∷ record { target = (A.LfoBus 4 0); scope = S.Global; rate = T.Control; min = (fin false 0 (pos 0)); max = (fin false 1 (pos 0)); feed = F.Nothing } ∷ record { target = (A.Param 35); scope = S.Global; rate = T.Control; min = (fin false 0 (pos 0)); max = (fin false 1 (pos 0)); feed = (F.Amount 9) } ∷ record { target = (A.Param 42); scope = S.Voice; rate = T.Audio; min = (fin false 0 (pos 0)); max = (fin false 1 (pos 0)); feed = (F.Output 8) } ∷ record { target = (A.Param 49); scope = S.Global; rate = T.Control; min = (inf true); max = (inf false); feed = (F.Amount 0) } ∷ [])
+    (record { source = P.Source 4; «source_curve» = C.Linear; amount = (fin true 15177187 (negsuc 24)); polarity = Q.Bipolar; destination = M.At (A.Param 49); aux = P.Nothing; «aux_invert» = false; «aux_curve» = C.Linear; output = (fin false 1 (pos 0)); bypass = false } ∷ record { source = P.Source 7; «source_curve» = C.Linear; amount = (fin false 1 (negsuc 0)); polarity = Q.Unipolar; destination = M.At (A.Param 21); aux = P.Nothing; «aux_invert» = false; «aux_curve» = C.Linear; output = (fin false 1 (negsuc 0)); bypass = false } ∷ record { source = P.Source 8; «source_curve» = C.Table (fin false 0 (pos 0)) (fin false 0 (pos 0)); amount = (fin false 1 (negsuc 0)); polarity = Q.Bipolar; destination = M.At (A.Param 14); aux = P.Nothing; «aux_invert» = false; «aux_curve» = C.Linear; output = (fin false 1 (pos 0)); bypass = true } ∷ record { source = P.Source 8; «source_curve» = C.Linear; amount = (fin false 16323989 (negsuc 24)); polarity = Q.Bipolar; destination = M.At (A.Param 42); aux = P.Nothing; «aux_invert» = false; «aux_curve» = C.Linear; output = (fin false 1 (pos 0)); bypass = false } ∷ record { source = P.Source 8; «source_curve» = C.Table (fin false 0 (pos 0)) (fin false 0 (pos 0)); amount = (fin false 0 (pos 0)); polarity = Q.Unipolar; destination = M.At (A.LfoBus 4 0); aux = P.Nothing; «aux_invert» = false; «aux_curve» = C.Linear; output = (fin false 1 (pos 0)); bypass = false } ∷ record { source = P.Source 6; «source_curve» = C.Table (fin false 0 (pos 0)) (fin false 0 (pos 0)); amount = (fin false 0 (pos 0)); polarity = Q.Unipolar; destination = M.At (A.Param 14); aux = P.Source 9; «aux_invert» = true; «aux_curve» = C.Linear; output = (fin false 1 (pos 0)); bypass = false } ∷ record { source = P.Source 8; «source_curve» = C.Table (fin false 6617445 (pos 77)) (fin false 1 (negsuc 0)); amount = (fin false 1 (negsuc 0)); polarity = Q.Bipolar; destination = M.At (A.Param 42); aux = P.Nothing; «aux_invert» = false; «aux_curve» = C.Linear; output = (fin false 5598635 (negsuc 23)); bypass = true } ∷ record { source = P.Source 8; «source_curve» = C.Linear; amount = (fin false 2633097 (negsuc 21)); polarity = Q.Bipolar; destination = M.At (A.Param 42); aux = P.Nothing; «aux_invert» = false; «aux_curve» = C.Linear; output = (fin false 11375051 (negsuc 24)); bypass = true } ∷ record { source = P.Source 10; «source_curve» = C.Table (fin true 0 (pos 0)) (fin false 1 (pos 0)); amount = (fin true 1 (pos 0)); polarity = Q.Bipolar; destination = M.At (A.Param 21); aux = P.Source 3; «aux_invert» = true; «aux_curve» = C.Linear; output = (fin false 1 (pos 0)); bypass = false } ∷ record { source = P.Source 8; «source_curve» = C.Linear; amount = (fin true 13431299 (negsuc 23)); polarity = Q.Unipolar; destination = M.At (A.Param 42); aux = P.Nothing; «aux_invert» = false; «aux_curve» = C.Linear; output = (fin false 1 (pos 0)); bypass = false } ∷ record { source = P.Source 7; «source_curve» = C.Table (fin false 0 (pos 0)) (fin false 1 (pos 5)); amount = (fin false 1 (negsuc 0)); polarity = Q.Bipolar; destination = M.At (A.Param 49); aux = P.Nothing; «aux_invert» = false; «aux_curve» = C.Linear; output = (fin false 1460845 (negsuc 20)); bypass = false } ∷ record { source = P.Source 8; «source_curve» = C.Table (fin false 0 (pos 0)) (fin false 0 (pos 0)); amount = (fin true 1 (pos 0)); polarity = Q.Bipolar; destination = M.At (A.Param 0); aux = P.Nothing; «aux_invert» = false; «aux_curve» = C.Linear; output = (fin false 1 (pos 0)); bypass = false } ∷ [])
+
+p54 : Compiles w54
+    (record { dest = 2; voice = true; audio = false; min = (fin false 2413261 (negsuc 20)); max = (fin false 5764839 (negsuc 20)); base = B.Held 8; first = 0; count = 1 } ∷ record { dest = 0; voice = true; audio = false; min = (inf true); max = (fin false 0 (pos 0)); base = B.Amount 0; first = 1; count = 1 } ∷ record { dest = 4; voice = false; audio = false; min = (fin false 0 (pos 0)); max = (fin false 1 (pos 0)); base = B.Set; first = 2; count = 1 } ∷ record { dest = 6; voice = true; audio = false; min = (fin false 0 (pos 0)); max = (fin false 1 (pos 0)); base = B.Output 8; first = 3; count = 2 } ∷ record { dest = 3; voice = true; audio = false; min = (fin false 0 (pos 0)); max = (fin false 1 (pos 0)); base = B.Amount 0; first = 5; count = 2 } ∷ record { dest = 7; voice = false; audio = false; min = (inf true); max = (inf false); base = B.Amount 0; first = 7; count = 2 } ∷ [])
+    6
+    (record { slot = 5; source = record { read = D.Held 6 true; bipolar = false; table = true; slew = L.Free }; aux = X.With (record { read = D.Signal 9 true; bipolar = true; table = false; slew = L.Free }); «aux_invert» = true; bipolar = false; amount = G.Live; output = G.Live; voice = true; scale = (fin false 1 (pos 0)); offset = (fin false 0 (pos 0)); simple = false } ∷ record { slot = 11; source = record { read = D.Fed 0 true; bipolar = false; table = true; slew = L.Free }; aux = X.Missing; «aux_invert» = false; bipolar = true; amount = G.Live; output = G.Live; voice = true; scale = (fin false 1 (pos 1)); offset = (fin true 1 (pos 0)); simple = false } ∷ record { slot = 4; source = record { read = D.Fed 0 true; bipolar = false; table = true; slew = L.Free }; aux = X.Missing; «aux_invert» = false; bipolar = false; amount = G.Live; output = G.Live; voice = true; scale = (fin false 1 (pos 0)); offset = (fin false 0 (pos 0)); simple = false } ∷ record { slot = 3; source = record { read = D.Fed 0 true; bipolar = false; table = false; slew = L.Free }; aux = X.Missing; «aux_invert» = false; bipolar = true; amount = G.Live; output = G.Live; voice = true; scale = (fin false 1 (pos 1)); offset = (fin true 1 (pos 0)); simple = true } ∷ record { slot = 9; source = record { read = D.Fed 0 true; bipolar = false; table = false; slew = L.Free }; aux = X.Missing; «aux_invert» = false; bipolar = false; amount = G.Live; output = G.Live; voice = true; scale = (fin false 1 (pos 0)); offset = (fin false 0 (pos 0)); simple = true } ∷ record { slot = 1; source = record { read = D.Held 7 true; bipolar = false; table = false; slew = L.Free }; aux = X.Missing; «aux_invert» = false; bipolar = false; amount = G.Live; output = G.Live; voice = true; scale = (fin false 1 (pos 0)); offset = (fin false 0 (pos 0)); simple = true } ∷ record { slot = 8; source = record { read = D.Held 10 false; bipolar = false; table = true; slew = L.Limit (inf false) (fin false 1 (pos 0)) }; aux = X.With (record { read = D.Constant; bipolar = true; table = false; slew = L.Free }); «aux_invert» = true; bipolar = true; amount = G.Live; output = G.Fed 3 true; voice = true; scale = (fin false 1 (pos 1)); offset = (fin true 1 (pos 0)); simple = false } ∷ record { slot = 0; source = record { read = D.RouteRandom; bipolar = false; table = false; slew = L.Free }; aux = X.Missing; «aux_invert» = false; bipolar = true; amount = G.Fed 5 false; output = G.Live; voice = true; scale = (fin false 1 (pos 1)); offset = (fin true 1 (pos 0)); simple = false } ∷ record { slot = 10; source = record { read = D.Held 7 true; bipolar = false; table = true; slew = L.Limit (inf false) (fin false 1 (negsuc 4)) }; aux = X.Missing; «aux_invert» = false; bipolar = true; amount = G.Live; output = G.Live; voice = true; scale = (fin false 1 (pos 1)); offset = (fin true 1 (pos 0)); simple = false } ∷ [])
+    ([])
+unfolding w54 targetPlace verdict candidatesFrom skippedFrom candidates skippedOf inUse countedFeed feederOf reads hearsAudio isAudio controls audios planOrder planPlace readOf slewFor inputOf routeOf routesInto planOf plansOf allRoutes order secondsOf ratePerSample max32 isNan lt eq mul div
+p54 = (refl, refl, refl, refl)
+
+-- gen.py 52
+w55 : Wiring
+w55 =
     wired (fin false 125 (pos 3))
     (source (K.Held) S.Global R.Unipolar ∷ source (K.Signal) S.Global R.Unipolar ∷ source (K.Held) S.Voice R.Unipolar ∷ source (K.Held) S.Global R.Unipolar ∷ source (K.Held) S.Voice R.Unipolar ∷ source (K.Held) S.Voice R.Unipolar ∷ [])
     (record { target = (A.LfoBus 0 0); scope = S.Voice; rate = T.Control; min = (fin true 1 (pos 0)); max = (fin false 1 (pos 0)); feed = (F.Source 1) } ∷ record { target = (A.Param 7); scope = S.Voice; rate = T.Control; min = (fin false 0 (pos 0)); max = (fin false 1 (pos 0)); feed = (F.Source 1) } ∷ record { target = (A.Param 14); scope = S.Voice; rate = T.Audio; min = (fin false 0 (pos 0)); max = (fin false 1 (pos 0)); feed = F.Nothing } ∷ record { target = (A.Param 21); scope = S.Voice; rate = T.Audio; min = (fin false 0 (pos 0)); max = (fin false 1 (pos 0)); feed = (F.Source 0) } ∷ record { target = (A.Param 28); scope = S.Voice; rate = T.Control; min = (inf true); max = (inf false); feed = (F.Output 1) } ∷ record { target = (A.Param 35); scope = S.Voice; rate = T.Control; min = (fin false 0 (pos 0)); max = (fin false 1 (pos 0)); feed = (F.Output 1) } ∷ record { target = (A.LfoBus 6 0); scope = S.Global; rate = T.Control; min = (inf true); max = (inf false); feed = F.Nothing } ∷ record { target = (A.Param 49); scope = S.Voice; rate = T.Audio; min = (inf true); max = (inf false); feed = (F.Source 3) } ∷ [])
     (record { source = P.Source 0; «source_curve» = C.Linear; amount = (fin true 0 (pos 0)); polarity = Q.Unipolar; destination = M.At (A.Param 21); aux = P.Source 0; «aux_invert» = false; «aux_curve» = C.Table (fin false 0 (pos 0)) (fin false 0 (pos 0)); output = (fin false 1 (pos 0)); bypass = false } ∷ record { source = P.Source 1; «source_curve» = C.Linear; amount = (fin false 5123451 (negsuc 23)); polarity = Q.Unipolar; destination = M.At (A.Param 28); aux = P.Nothing; «aux_invert» = false; «aux_curve» = C.Linear; output = (fin false 1 (pos 0)); bypass = false } ∷ record { source = P.Source 2; «source_curve» = C.Linear; amount = (fin true 15925493 (negsuc 24)); polarity = Q.Bipolar; destination = M.At (A.Param 35); aux = P.Nothing; «aux_invert» = false; «aux_curve» = C.Linear; output = (fin false 1 (pos 0)); bypass = false } ∷ record { source = P.Source 0; «source_curve» = C.Linear; amount = (fin true 7972783 (negsuc 22)); polarity = Q.Bipolar; destination = M.At (A.Param 21); aux = P.Nothing; «aux_invert» = false; «aux_curve» = C.Linear; output = (fin false 1 (pos 0)); bypass = false } ∷ record { source = P.Source 0; «source_curve» = C.Table (fin false 0 (pos 0)) (fin false 0 (pos 0)); amount = (fin true 1 (pos 0)); polarity = Q.Unipolar; destination = M.At (A.Param 21); aux = P.Nothing; «aux_invert» = false; «aux_curve» = C.Linear; output = (fin false 1 (pos 0)); bypass = false } ∷ record { source = P.Source 0; «source_curve» = C.Linear; amount = (fin false 0 (pos 0)); polarity = Q.Bipolar; destination = M.At (A.Param 7); aux = P.Nothing; «aux_invert» = false; «aux_curve» = C.Linear; output = (fin false 1 (pos 0)); bypass = false } ∷ record { source = P.Source 0; «source_curve» = C.Linear; amount = (fin false 3726407 (negsuc 21)); polarity = Q.Bipolar; destination = M.At (A.Param 14); aux = P.Nothing; «aux_invert» = false; «aux_curve» = C.Linear; output = (fin false 1 (pos 0)); bypass = false } ∷ record { source = P.Source 0; «source_curve» = C.Table (fin false 0 (pos 0)) (fin false 0 (pos 0)); amount = (fin true 6617445 (pos 77)); polarity = Q.Unipolar; destination = M.At (A.Param 7); aux = P.Source 0; «aux_invert» = true; «aux_curve» = C.Linear; output = (fin false 1 (pos 0)); bypass = false } ∷ record { source = P.Source 5; «source_curve» = C.Linear; amount = (fin false 16561139 (negsuc 24)); polarity = Q.Unipolar; destination = M.At (A.LfoBus 6 0); aux = P.Source 3; «aux_invert» = false; «aux_curve» = C.Table (fin false 13117255 (negsuc 26)) (fin false 7890601 (negsuc 26)); output = (fin false 1 (pos 0)); bypass = false } ∷ record { source = P.Source 4; «source_curve» = C.Linear; amount = (fin false 1 (pos 0)); polarity = Q.Unipolar; destination = M.At (A.Param 49); aux = P.Nothing; «aux_invert» = false; «aux_curve» = C.Linear; output = (fin false 1 (pos 0)); bypass = false } ∷ record { source = P.Source 0; «source_curve» = C.Linear; amount = (fin true 1 (pos 0)); polarity = Q.Bipolar; destination = M.At (A.Param 21); aux = P.Nothing; «aux_invert» = false; «aux_curve» = C.Linear; output = (fin false 1 (pos 0)); bypass = false } ∷ record { source = P.Source 0; «source_curve» = C.Linear; amount = (fin false 2955705 (negsuc 22)); polarity = Q.Bipolar; destination = M.At (A.Param 7); aux = P.Nothing; «aux_invert» = false; «aux_curve» = C.Linear; output = (fin false 1 (pos 0)); bypass = false } ∷ [])
 
-p54 : Compiles w54
+p55 : Compiles w55
     (record { dest = 3; voice = true; audio = false; min = (fin false 0 (pos 0)); max = (fin false 1 (pos 0)); base = B.Held 0; first = 0; count = 4 } ∷ record { dest = 1; voice = true; audio = false; min = (fin false 0 (pos 0)); max = (fin false 1 (pos 0)); base = B.Set; first = 4; count = 3 } ∷ record { dest = 5; voice = true; audio = false; min = (fin false 0 (pos 0)); max = (fin false 1 (pos 0)); base = B.Output 1; first = 7; count = 1 } ∷ record { dest = 4; voice = true; audio = false; min = (inf true); max = (inf false); base = B.Output 1; first = 8; count = 1 } ∷ record { dest = 7; voice = true; audio = false; min = (inf true); max = (inf false); base = B.Held 3; first = 9; count = 1 } ∷ record { dest = 6; voice = false; audio = false; min = (inf true); max = (inf false); base = B.Set; first = 10; count = 1 } ∷ record { dest = 2; voice = true; audio = true; min = (fin false 0 (pos 0)); max = (fin false 1 (pos 0)); base = B.Set; first = 11; count = 1 } ∷ [])
     6
     (record { slot = 0; source = record { read = D.Fed 0 true; bipolar = false; table = false; slew = L.Free }; aux = X.With (record { read = D.Fed 0 true; bipolar = false; table = true; slew = L.Free }); «aux_invert» = false; bipolar = false; amount = G.Live; output = G.Live; voice = true; scale = (fin false 1 (pos 0)); offset = (fin false 0 (pos 0)); simple = false } ∷ record { slot = 3; source = record { read = D.Fed 0 true; bipolar = false; table = false; slew = L.Free }; aux = X.Missing; «aux_invert» = false; bipolar = true; amount = G.Live; output = G.Live; voice = true; scale = (fin false 1 (pos 1)); offset = (fin true 1 (pos 0)); simple = true } ∷ record { slot = 4; source = record { read = D.Fed 0 true; bipolar = false; table = true; slew = L.Free }; aux = X.Missing; «aux_invert» = false; bipolar = false; amount = G.Live; output = G.Live; voice = true; scale = (fin false 1 (pos 0)); offset = (fin false 0 (pos 0)); simple = false } ∷ record { slot = 10; source = record { read = D.Fed 0 true; bipolar = false; table = false; slew = L.Free }; aux = X.Missing; «aux_invert» = false; bipolar = true; amount = G.Live; output = G.Live; voice = true; scale = (fin false 1 (pos 1)); offset = (fin true 1 (pos 0)); simple = true } ∷ record { slot = 5; source = record { read = D.Fed 0 true; bipolar = false; table = false; slew = L.Free }; aux = X.Missing; «aux_invert» = false; bipolar = true; amount = G.Live; output = G.Live; voice = true; scale = (fin false 1 (pos 1)); offset = (fin true 1 (pos 0)); simple = true } ∷ record { slot = 7; source = record { read = D.Fed 0 true; bipolar = false; table = true; slew = L.Free }; aux = X.With (record { read = D.Fed 0 true; bipolar = false; table = false; slew = L.Free }); «aux_invert» = true; bipolar = false; amount = G.Live; output = G.Live; voice = true; scale = (fin false 1 (pos 0)); offset = (fin false 0 (pos 0)); simple = false } ∷ record { slot = 11; source = record { read = D.Fed 0 true; bipolar = false; table = false; slew = L.Free }; aux = X.Missing; «aux_invert» = false; bipolar = true; amount = G.Live; output = G.Live; voice = true; scale = (fin false 1 (pos 1)); offset = (fin true 1 (pos 0)); simple = true } ∷ record { slot = 2; source = record { read = D.Held 2 true; bipolar = false; table = false; slew = L.Free }; aux = X.Missing; «aux_invert» = false; bipolar = true; amount = G.Live; output = G.Live; voice = true; scale = (fin false 1 (pos 1)); offset = (fin true 1 (pos 0)); simple = true } ∷ record { slot = 1; source = record { read = D.Signal 1 false; bipolar = false; table = false; slew = L.Free }; aux = X.Missing; «aux_invert» = false; bipolar = false; amount = G.Live; output = G.Fed 2 true; voice = true; scale = (fin false 1 (pos 0)); offset = (fin false 0 (pos 0)); simple = false } ∷ record { slot = 9; source = record { read = D.Held 4 true; bipolar = false; table = false; slew = L.Free }; aux = X.Missing; «aux_invert» = false; bipolar = false; amount = G.Live; output = G.Live; voice = true; scale = (fin false 1 (pos 0)); offset = (fin false 0 (pos 0)); simple = true } ∷ record { slot = 8; source = record { read = D.Held 5 true; bipolar = false; table = false; slew = L.Free }; aux = X.With (record { read = D.Fed 4 true; bipolar = false; table = true; slew = L.Limit (fin false 171667 (negsuc 23)) (fin false 9132079 (negsuc 28)) }); «aux_invert» = false; bipolar = false; amount = G.Live; output = G.Live; voice = true; scale = (fin false 1 (pos 0)); offset = (fin false 0 (pos 0)); simple = false } ∷ record { slot = 6; source = record { read = D.Fed 0 true; bipolar = false; table = false; slew = L.Free }; aux = X.Missing; «aux_invert» = false; bipolar = true; amount = G.Live; output = G.Live; voice = true; scale = (fin false 1 (pos 1)); offset = (fin true 1 (pos 0)); simple = true } ∷ [])
     ([])
-unfolding w54 targetPlace verdict candidatesFrom skippedFrom candidates skippedOf inUse countedFeed feederOf reads hearsAudio isAudio controls audios planOrder planPlace readOf slewFor inputOf routeOf routesInto planOf plansOf allRoutes order secondsOf ratePerSample max32 isNan lt eq mul div
-p54 = (refl, refl, refl, refl)
+unfolding w55 targetPlace verdict candidatesFrom skippedFrom candidates skippedOf inUse countedFeed feederOf reads hearsAudio isAudio controls audios planOrder planPlace readOf slewFor inputOf routeOf routesInto planOf plansOf allRoutes order secondsOf ratePerSample max32 isNan lt eq mul div
+p55 = (refl, refl, refl, refl)
 
 -- gen.py 57
-w55 : Wiring
-w55 =
+w56 : Wiring
+w56 =
     wired (fin false 1 (pos 0))
     (source (K.Constant) S.Global R.Unipolar ∷ source (K.Held) S.Global R.Unipolar ∷ source (K.Held) S.Voice R.Unipolar ∷ source (K.Audio) S.Global R.Bipolar ∷ source (K.Held) S.Global R.Bipolar ∷ [])
     (record { target = (A.LfoBus 0 0); scope = S.Voice; rate = T.Control; min = (fin false 0 (pos 0)); max = (fin false 1 (pos 0)); feed = F.Nothing } ∷ record { target = (A.Param 7); scope = S.Global; rate = T.Control; min = (fin true 1 (pos 0)); max = (fin false 1 (pos 0)); feed = F.Nothing } ∷ record { target = (A.Param 14); scope = S.Voice; rate = T.Audio; min = (inf true); max = (inf false); feed = F.Nothing } ∷ record { target = (A.LfoBus 3 0); scope = S.Voice; rate = T.Control; min = (fin false 0 (pos 0)); max = (fin false 1 (pos 0)); feed = F.Nothing } ∷ record { target = (A.Param 28); scope = S.Voice; rate = T.Control; min = (inf true); max = (inf false); feed = F.Nothing } ∷ record { target = (A.Param 35); scope = S.Voice; rate = T.Control; min = (fin false 0 (pos 0)); max = (fin false 1 (pos 0)); feed = (F.Amount 2) } ∷ record { target = (A.Param 42); scope = S.Voice; rate = T.Control; min = (fin false 0 (pos 0)); max = (fin false 1 (pos 0)); feed = (F.Source 3) } ∷ [])
     (record { source = P.Source 1; «source_curve» = C.Linear; amount = (fin false 1 (negsuc 0)); polarity = Q.Unipolar; destination = M.At (A.Param 28); aux = P.Nothing; «aux_invert» = false; «aux_curve» = C.Linear; output = (fin false 12801061 (negsuc 24)); bypass = false } ∷ record { source = P.Source 0; «source_curve» = C.Linear; amount = (fin false 0 (pos 0)); polarity = Q.Bipolar; destination = M.At (A.Param 7); aux = P.Nothing; «aux_invert» = false; «aux_curve» = C.Linear; output = (fin false 1 (pos 0)); bypass = false } ∷ record { source = P.Source 4; «source_curve» = C.Table (fin false 0 (pos 0)) (fin false 0 (pos 0)); amount = (fin true 1 (pos 0)); polarity = Q.Unipolar; destination = M.At (A.Param 7); aux = P.Source 1; «aux_invert» = true; «aux_curve» = C.Linear; output = (fin false 1 (pos 0)); bypass = false } ∷ record { source = P.Source 0; «source_curve» = C.Linear; amount = (fin false 1 (pos 0)); polarity = Q.Bipolar; destination = M.At (A.LfoBus 3 0); aux = P.Nothing; «aux_invert» = false; «aux_curve» = C.Linear; output = (fin false 1 (pos 0)); bypass = false } ∷ record { source = P.Source 0; «source_curve» = C.Table (fin false 0 (pos 0)) (fin false 0 (pos 0)); amount = (fin false 1 (pos 0)); polarity = Q.Unipolar; destination = M.At (A.LfoBus 3 0); aux = P.Nothing; «aux_invert» = false; «aux_curve» = C.Linear; output = (fin false 1 (pos 0)); bypass = false } ∷ record { source = P.Source 0; «source_curve» = C.Linear; amount = (fin false 14939887 (negsuc 24)); polarity = Q.Bipolar; destination = M.At (A.LfoBus 0 0); aux = P.Nothing; «aux_invert» = false; «aux_curve» = C.Linear; output = (fin false 2164507 (negsuc 23)); bypass = false } ∷ record { source = P.Source 1; «source_curve» = C.Linear; amount = (fin false 1 (pos 0)); polarity = Q.Bipolar; destination = M.At (A.LfoBus 3 0); aux = P.Source 1; «aux_invert» = false; «aux_curve» = C.Linear; output = (fin false 1 (pos 0)); bypass = false } ∷ record { source = P.Nothing; «source_curve» = C.Linear; amount = (fin false 0 (pos 0)); polarity = Q.Unipolar; destination = M.Nothing; aux = P.Nothing; «aux_invert» = false; «aux_curve» = C.Linear; output = (fin false 1 (pos 0)); bypass = false } ∷ record { source = P.Source 0; «source_curve» = C.Table (fin false 15288043 (negsuc 14)) (fin false 1 (pos 0)); amount = (fin false 1 (pos 0)); polarity = Q.Bipolar; destination = M.At (A.LfoBus 0 0); aux = P.Nothing; «aux_invert» = false; «aux_curve» = C.Linear; output = (fin false 1 (pos 0)); bypass = false } ∷ record { source = P.Source 0; «source_curve» = C.Linear; amount = (fin true 10553299 (negsuc 24)); polarity = Q.Bipolar; destination = M.At (A.Param 35); aux = P.Nothing; «aux_invert» = false; «aux_curve» = C.Linear; output = (fin false 1 (negsuc 0)); bypass = false } ∷ record { source = P.Source 1; «source_curve» = C.Table (fin false 0 (pos 0)) (fin false 0 (pos 0)); amount = (fin false 16625083 (negsuc 23)); polarity = Q.Bipolar; destination = M.At (A.Param 14); aux = P.Nothing; «aux_invert» = false; «aux_curve» = C.Linear; output = (fin false 1 (negsuc 0)); bypass = false } ∷ record { source = P.Source 0; «source_curve» = C.Linear; amount = (fin false 1 (pos 0)); polarity = Q.Unipolar; destination = M.At (A.LfoBus 3 0); aux = P.Nothing; «aux_invert» = false; «aux_curve» = C.Linear; output = (fin false 1 (pos 0)); bypass = false } ∷ [])
 
-p55 : Compiles w55
+p56 : Compiles w56
     (record { dest = 0; voice = true; audio = false; min = (fin false 0 (pos 0)); max = (fin false 1 (pos 0)); base = B.Set; first = 0; count = 2 } ∷ record { dest = 3; voice = true; audio = false; min = (fin false 0 (pos 0)); max = (fin false 1 (pos 0)); base = B.Set; first = 2; count = 4 } ∷ record { dest = 4; voice = true; audio = false; min = (inf true); max = (inf false); base = B.Set; first = 6; count = 1 } ∷ record { dest = 5; voice = true; audio = false; min = (fin false 0 (pos 0)); max = (fin false 1 (pos 0)); base = B.Amount 2; first = 7; count = 1 } ∷ record { dest = 1; voice = false; audio = false; min = (fin true 1 (pos 0)); max = (fin false 1 (pos 0)); base = B.Set; first = 8; count = 2 } ∷ record { dest = 2; voice = true; audio = true; min = (inf true); max = (inf false); base = B.Set; first = 10; count = 1 } ∷ [])
     5
     (record { slot = 5; source = record { read = D.Constant; bipolar = false; table = false; slew = L.Free }; aux = X.Missing; «aux_invert» = false; bipolar = true; amount = G.Live; output = G.Live; voice = false; scale = (fin false 1 (pos 1)); offset = (fin true 1 (pos 0)); simple = false } ∷ record { slot = 8; source = record { read = D.Constant; bipolar = false; table = true; slew = L.Limit (fin false 9205723 (negsuc 31)) (fin false 1 (pos 0)) }; aux = X.Missing; «aux_invert» = false; bipolar = true; amount = G.Live; output = G.Live; voice = false; scale = (fin false 1 (pos 1)); offset = (fin true 1 (pos 0)); simple = false } ∷ record { slot = 3; source = record { read = D.Constant; bipolar = false; table = false; slew = L.Free }; aux = X.Missing; «aux_invert» = false; bipolar = true; amount = G.Live; output = G.Live; voice = false; scale = (fin false 1 (pos 1)); offset = (fin true 1 (pos 0)); simple = false } ∷ record { slot = 4; source = record { read = D.Constant; bipolar = false; table = true; slew = L.Free }; aux = X.Missing; «aux_invert» = false; bipolar = false; amount = G.Live; output = G.Live; voice = false; scale = (fin false 1 (pos 0)); offset = (fin false 0 (pos 0)); simple = false } ∷ record { slot = 6; source = record { read = D.Held 1 false; bipolar = false; table = false; slew = L.Free }; aux = X.With (record { read = D.Held 1 false; bipolar = false; table = false; slew = L.Free }); «aux_invert» = false; bipolar = true; amount = G.Live; output = G.Live; voice = false; scale = (fin false 1 (pos 1)); offset = (fin true 1 (pos 0)); simple = false } ∷ record { slot = 11; source = record { read = D.Constant; bipolar = false; table = false; slew = L.Free }; aux = X.Missing; «aux_invert» = false; bipolar = false; amount = G.Live; output = G.Live; voice = false; scale = (fin false 1 (pos 0)); offset = (fin false 0 (pos 0)); simple = false } ∷ record { slot = 0; source = record { read = D.Held 1 false; bipolar = false; table = false; slew = L.Free }; aux = X.Missing; «aux_invert» = false; bipolar = false; amount = G.Live; output = G.Live; voice = false; scale = (fin false 1 (pos 0)); offset = (fin false 0 (pos 0)); simple = false } ∷ record { slot = 9; source = record { read = D.Constant; bipolar = false; table = false; slew = L.Free }; aux = X.Missing; «aux_invert» = false; bipolar = true; amount = G.Live; output = G.Live; voice = false; scale = (fin false 1 (pos 1)); offset = (fin true 1 (pos 0)); simple = false } ∷ record { slot = 1; source = record { read = D.Constant; bipolar = false; table = false; slew = L.Free }; aux = X.Missing; «aux_invert» = false; bipolar = true; amount = G.Live; output = G.Live; voice = false; scale = (fin false 1 (pos 1)); offset = (fin true 1 (pos 0)); simple = false } ∷ record { slot = 2; source = record { read = D.Held 4 false; bipolar = true; table = true; slew = L.Free }; aux = X.With (record { read = D.Held 1 false; bipolar = false; table = false; slew = L.Free }); «aux_invert» = true; bipolar = false; amount = G.Fed 3 true; output = G.Live; voice = true; scale = (fin false 1 (negsuc 0)); offset = (fin false 1 (negsuc 0)); simple = false } ∷ record { slot = 10; source = record { read = D.Held 1 false; bipolar = false; table = true; slew = L.Free }; aux = X.Missing; «aux_invert» = false; bipolar = true; amount = G.Live; output = G.Live; voice = false; scale = (fin false 1 (pos 1)); offset = (fin true 1 (pos 0)); simple = false } ∷ [])
     ([])
-unfolding w55 targetPlace verdict candidatesFrom skippedFrom candidates skippedOf inUse countedFeed feederOf reads hearsAudio isAudio controls audios planOrder planPlace readOf slewFor inputOf routeOf routesInto planOf plansOf allRoutes order secondsOf ratePerSample max32 isNan lt eq mul div
-p55 = (refl, refl, refl, refl)
+unfolding w56 targetPlace verdict candidatesFrom skippedFrom candidates skippedOf inUse countedFeed feederOf reads hearsAudio isAudio controls audios planOrder planPlace readOf slewFor inputOf routeOf routesInto planOf plansOf allRoutes order secondsOf ratePerSample max32 isNan lt eq mul div
+p56 = (refl, refl, refl, refl)
 
 -- gen.py 99
-w56 : Wiring
-w56 =
+w57 : Wiring
+w57 =
     wired (fin false 375 (pos 7))
     (source (K.Audio) S.Voice R.Bipolar ∷ source (K.Signal) S.Voice R.Unipolar ∷ source (K.Signal) S.Voice R.Unipolar ∷ source (K.RandomPerRoute) S.Voice R.Unipolar ∷ source (K.Signal) S.Voice R.Unipolar ∷ source (K.Signal) S.Voice R.Unipolar ∷ source (K.VoiceLoad) S.Global R.Unipolar ∷ source (K.Alternate false) S.Voice R.Unipolar ∷ source (K.Signal) S.Voice R.Unipolar ∷ source (K.RandomPerRoute) S.Voice R.Bipolar ∷ [])
     (record { target = (A.LfoBus 0 0); scope = S.Voice; rate = T.Audio; min = (inf true); max = (inf false); feed = F.Nothing } ∷ record { target = (A.Param 7); scope = S.Voice; rate = T.Adaptive; min = (fin false 0 (pos 0)); max = (fin false 1 (pos 0)); feed = (F.Source 9) } ∷ record { target = (A.Param 14); scope = S.Voice; rate = T.Audio; min = (inf true); max = (fin false 0 (pos 0)); feed = F.Nothing } ∷ record { target = (A.Param 21); scope = S.Voice; rate = T.Audio; min = (fin true 1 (pos 0)); max = (fin false 1 (pos 0)); feed = F.Nothing } ∷ record { target = (A.Param 28); scope = S.Voice; rate = T.Audio; min = (inf true); max = (inf false); feed = (F.Source 11) } ∷ record { target = (A.Param 35); scope = S.Voice; rate = T.Control; min = (fin false 0 (pos 0)); max = (fin false 1 (pos 0)); feed = F.Nothing } ∷ record { target = (A.Param 42); scope = S.Voice; rate = T.Adaptive; min = (fin true 0 (pos 0)); max = (fin false 1 (pos 0)); feed = F.Nothing } ∷ [])
     (record { source = P.Source 0; «source_curve» = C.Linear; amount = (fin false 0 (pos 0)); polarity = Q.Bipolar; destination = M.At (A.Param 28); aux = P.Nothing; «aux_invert» = false; «aux_curve» = C.Linear; output = (fin false 1 (pos 0)); bypass = false } ∷ record { source = P.Source 5; «source_curve» = C.Linear; amount = (fin true 3960991 (negsuc 22)); polarity = Q.Bipolar; destination = M.At (A.LfoBus 0 0); aux = P.Source 200; «aux_invert» = false; «aux_curve» = C.Linear; output = (fin false 1 (pos 0)); bypass = false } ∷ record { source = P.Source 2; «source_curve» = C.Linear; amount = (fin true 1 (pos 0)); polarity = Q.Unipolar; destination = M.At (A.Param 14); aux = P.Nothing; «aux_invert» = false; «aux_curve» = C.Linear; output = (fin false 1 (pos 0)); bypass = false } ∷ [])
 
-p56 : Compiles w56
+p57 : Compiles w57
     (record { dest = 2; voice = true; audio = true; min = (inf true); max = (fin false 0 (pos 0)); base = B.Set; first = 0; count = 1 } ∷ record { dest = 4; voice = true; audio = true; min = (inf true); max = (inf false); base = B.Set; first = 1; count = 1 } ∷ [])
     0
     (record { slot = 2; source = record { read = D.Signal 2 true; bipolar = false; table = false; slew = L.Free }; aux = X.Missing; «aux_invert» = false; bipolar = false; amount = G.Live; output = G.Live; voice = true; scale = (fin false 1 (pos 0)); offset = (fin false 0 (pos 0)); simple = true } ∷ record { slot = 0; source = record { read = D.Signal 0 true; bipolar = true; table = false; slew = L.Free }; aux = X.Missing; «aux_invert» = false; bipolar = true; amount = G.Live; output = G.Live; voice = true; scale = (fin false 1 (pos 0)); offset = (fin false 0 (pos 0)); simple = true } ∷ [])
     (record { slot = 1; reason = E.UnknownAux } ∷ [])
-unfolding w56 targetPlace verdict candidatesFrom skippedFrom candidates skippedOf inUse countedFeed feederOf reads hearsAudio isAudio controls audios planOrder planPlace readOf slewFor inputOf routeOf routesInto planOf plansOf allRoutes order secondsOf ratePerSample max32 isNan lt eq mul div
-p56 = (refl, refl, refl, refl)
+unfolding w57 targetPlace verdict candidatesFrom skippedFrom candidates skippedOf inUse countedFeed feederOf reads hearsAudio isAudio controls audios planOrder planPlace readOf slewFor inputOf routeOf routesInto planOf plansOf allRoutes order secondsOf ratePerSample max32 isNan lt eq mul div
+p57 = (refl, refl, refl, refl)
 
 -- gen.py 166
-w57 : Wiring
-w57 =
+w58 : Wiring
+w58 =
     wired (fin false 10830605 (negsuc 6))
     (source (K.Audio) S.Voice R.Bipolar ∷ source (K.Held) S.Global R.Unipolar ∷ source (K.Alternate false) S.Voice R.Unipolar ∷ source (K.Constant) S.Global R.Unipolar ∷ source (K.Signal) S.Voice R.Unipolar ∷ source (K.Constant) S.Global R.Bipolar ∷ source (K.ReleaseVelocity) S.Voice R.Unipolar ∷ source (K.Held) S.Global R.Unipolar ∷ source (K.Constant) S.Global R.Unipolar ∷ source (K.Constant) S.Global R.Unipolar ∷ source (K.Signal) S.Voice R.Unipolar ∷ source (K.Signal) S.Global R.Unipolar ∷ source (K.Alternate false) S.Voice R.Unipolar ∷ source (K.Signal) S.Voice R.Unipolar ∷ source (K.RandomPerRoute) S.Voice R.Unipolar ∷ source (K.Signal) S.Global R.Unipolar ∷ source (K.RandomPerRoute) S.Voice R.Unipolar ∷ source (K.Held) S.Global R.Unipolar ∷ source (K.Held) S.Global R.Unipolar ∷ source (K.Audio) S.Global R.Bipolar ∷ [])
     (record { target = (A.Param 0); scope = S.Voice; rate = T.Adaptive; min = (fin false 0 (pos 0)); max = (inf false); feed = (F.Source 17) } ∷ [])
     (record { source = P.Source 1; «source_curve» = C.Linear; amount = (fin true 1 (pos 0)); polarity = Q.Unipolar; destination = M.At (A.Param 0); aux = P.Nothing; «aux_invert» = false; «aux_curve» = C.Linear; output = (fin false 1 (pos 0)); bypass = false } ∷ record { source = P.Source 17; «source_curve» = C.Linear; amount = (fin true 1 (pos 0)); polarity = Q.Bipolar; destination = M.At (A.Param 0); aux = P.Nothing; «aux_invert» = false; «aux_curve» = C.Linear; output = (fin false 1 (pos 0)); bypass = false } ∷ record { source = P.Source 8; «source_curve» = C.Linear; amount = (fin false 11928295 (negsuc 23)); polarity = Q.Unipolar; destination = M.At (A.Param 0); aux = P.Source 19; «aux_invert» = true; «aux_curve» = C.Linear; output = (fin false 1 (pos 0)); bypass = false } ∷ record { source = P.Source 14; «source_curve» = C.Linear; amount = (fin false 13700791 (negsuc 24)); polarity = Q.Unipolar; destination = M.At (A.Param 0); aux = P.Source 20; «aux_invert» = false; «aux_curve» = C.Table (fin false 0 (pos 0)) (fin false 0 (pos 0)); output = (fin true 3883599 (negsuc 21)); bypass = false } ∷ record { source = P.Source 3; «source_curve» = C.Linear; amount = (fin false 1 (negsuc 0)); polarity = Q.Unipolar; destination = M.At (A.Param 0); aux = P.Nothing; «aux_invert» = false; «aux_curve» = C.Linear; output = (fin false 1 (pos 0)); bypass = false } ∷ record { source = P.Source 7; «source_curve» = C.Table (fin false 0 (pos 0)) (fin false 0 (pos 0)); amount = (fin false 9014775 (negsuc 23)); polarity = Q.Unipolar; destination = M.At (A.Param 0); aux = P.Nothing; «aux_invert» = false; «aux_curve» = C.Linear; output = (fin false 1 (pos 0)); bypass = false } ∷ record { source = P.Source 19; «source_curve» = C.Table (fin false 0 (pos 0)) (fin false 0 (pos 0)); amount = (fin true 1 (pos 0)); polarity = Q.Bipolar; destination = M.Nothing; aux = P.Source 17; «aux_invert» = true; «aux_curve» = C.Linear; output = (fin false 2225387 (negsuc 22)); bypass = false } ∷ record { source = P.Source 15; «source_curve» = C.Table (fin false 1 (pos 0)) (fin false 5368709 (negsuc 28)); amount = (fin true 1 (pos 0)); polarity = Q.Unipolar; destination = M.At (A.Param 0); aux = P.Source 14; «aux_invert» = true; «aux_curve» = C.Table (fin false 2937657 (negsuc 31)) (fin false 12994425 (negsuc 39)); output = (fin false 1 (pos 0)); bypass = false } ∷ [])
 
-p57 : Compiles w57
+p58 : Compiles w58
     (record { dest = 0; voice = true; audio = false; min = (fin false 0 (pos 0)); max = (inf false); base = B.Held 17; first = 0; count = 6 } ∷ [])
     1
     (record { slot = 0; source = record { read = D.Held 1 false; bipolar = false; table = false; slew = L.Free }; aux = X.Missing; «aux_invert» = false; bipolar = false; amount = G.Live; output = G.Live; voice = false; scale = (fin false 1 (pos 0)); offset = (fin false 0 (pos 0)); simple = false } ∷ record { slot = 1; source = record { read = D.Fed 0 true; bipolar = false; table = false; slew = L.Free }; aux = X.Missing; «aux_invert» = false; bipolar = true; amount = G.Live; output = G.Live; voice = true; scale = (fin false 1 (pos 1)); offset = (fin true 1 (pos 0)); simple = true } ∷ record { slot = 2; source = record { read = D.Constant; bipolar = false; table = false; slew = L.Free }; aux = X.With (record { read = D.Signal 19 false; bipolar = true; table = false; slew = L.Free }); «aux_invert» = true; bipolar = false; amount = G.Live; output = G.Live; voice = false; scale = (fin false 1 (pos 0)); offset = (fin false 0 (pos 0)); simple = false } ∷ record { slot = 4; source = record { read = D.Constant; bipolar = false; table = false; slew = L.Free }; aux = X.Missing; «aux_invert» = false; bipolar = false; amount = G.Live; output = G.Live; voice = false; scale = (fin false 1 (pos 0)); offset = (fin false 0 (pos 0)); simple = false } ∷ record { slot = 5; source = record { read = D.Held 7 false; bipolar = false; table = true; slew = L.Free }; aux = X.Missing; «aux_invert» = false; bipolar = false; amount = G.Live; output = G.Live; voice = false; scale = (fin false 1 (pos 0)); offset = (fin false 0 (pos 0)); simple = false } ∷ record { slot = 7; source = record { read = D.Signal 15 false; bipolar = false; table = true; slew = L.Limit (fin false 12994425 (negsuc 39)) (fin false 10151895 (negsuc 32)) }; aux = X.With (record { read = D.RouteRandom; bipolar = false; table = true; slew = L.Limit (fin false 4638269 (negsuc 27)) (fin false 1 (pos 0)) }); «aux_invert» = true; bipolar = false; amount = G.Live; output = G.Live; voice = true; scale = (fin false 1 (pos 0)); offset = (fin false 0 (pos 0)); simple = false } ∷ [])
     (record { slot = 3; reason = E.UnknownAux } ∷ [])
-unfolding w57 targetPlace verdict candidatesFrom skippedFrom candidates skippedOf inUse countedFeed feederOf reads hearsAudio isAudio controls audios planOrder planPlace readOf slewFor inputOf routeOf routesInto planOf plansOf allRoutes order secondsOf ratePerSample max32 isNan lt eq mul div
-p57 = (refl, refl, refl, refl)
+unfolding w58 targetPlace verdict candidatesFrom skippedFrom candidates skippedOf inUse countedFeed feederOf reads hearsAudio isAudio controls audios planOrder planPlace readOf slewFor inputOf routeOf routesInto planOf plansOf allRoutes order secondsOf ratePerSample max32 isNan lt eq mul div
+p58 = (refl, refl, refl, refl)
 
 -- gen.py 200
-w58 : Wiring
-w58 =
+w59 : Wiring
+w59 =
     wired (fin false 11729461 (negsuc 6))
     (source (K.Audio) S.Voice R.Bipolar ∷ source (K.Held) S.Voice R.Unipolar ∷ source (K.Signal) S.Global R.Unipolar ∷ source (K.Velocity) S.Voice R.Unipolar ∷ source (K.Held) S.Voice R.Unipolar ∷ source (K.Held) S.Voice R.Unipolar ∷ [])
     (record { target = (A.Param 0); scope = S.Global; rate = T.Control; min = (fin true 1322649 (negsuc 19)); max = (fin false 9600021 (negsuc 21)); feed = (F.Amount 0) } ∷ record { target = (A.Param 7); scope = S.Voice; rate = T.Adaptive; min = (fin false 0 (pos 0)); max = (fin false 1 (pos 0)); feed = (F.Amount 3) } ∷ record { target = (A.Param 14); scope = S.Global; rate = T.Control; min = (inf true); max = (inf false); feed = (F.Amount 3) } ∷ [])
     (record { source = P.Source 5; «source_curve» = C.Linear; amount = (fin false 1 (negsuc 0)); polarity = Q.Bipolar; destination = M.At (A.Param 14); aux = P.Nothing; «aux_invert» = false; «aux_curve» = C.Linear; output = (fin false 1 (pos 0)); bypass = false } ∷ unused ∷ unused ∷ record { source = P.Source 4; «source_curve» = C.Linear; amount = (fin false 1 (negsuc 0)); polarity = Q.Unipolar; destination = M.At (A.Param 7); aux = P.Nothing; «aux_invert» = false; «aux_curve» = C.Linear; output = (fin false 1 (pos 0)); bypass = false } ∷ [])
 
-p58 : Compiles w58
+p59 : Compiles w59
     (record { dest = 2; voice = false; audio = false; min = (inf true); max = (inf false); base = B.Amount 3; first = 0; count = 1 } ∷ record { dest = 1; voice = true; audio = false; min = (fin false 0 (pos 0)); max = (fin false 1 (pos 0)); base = B.Amount 3; first = 1; count = 1 } ∷ [])
     2
     (record { slot = 0; source = record { read = D.Held 5 true; bipolar = false; table = false; slew = L.Free }; aux = X.Missing; «aux_invert» = false; bipolar = true; amount = G.Live; output = G.Live; voice = true; scale = (fin false 1 (pos 1)); offset = (fin true 1 (pos 0)); simple = false } ∷ record { slot = 3; source = record { read = D.Held 4 true; bipolar = false; table = false; slew = L.Free }; aux = X.Missing; «aux_invert» = false; bipolar = false; amount = G.Fed 0 false; output = G.Live; voice = true; scale = (fin false 1 (pos 0)); offset = (fin false 0 (pos 0)); simple = false } ∷ [])
     ([])
-unfolding w58 targetPlace verdict candidatesFrom skippedFrom candidates skippedOf inUse countedFeed feederOf reads hearsAudio isAudio controls audios planOrder planPlace readOf slewFor inputOf routeOf routesInto planOf plansOf allRoutes order secondsOf ratePerSample max32 isNan lt eq mul div
-p58 = (refl, refl, refl, refl)
+unfolding w59 targetPlace verdict candidatesFrom skippedFrom candidates skippedOf inUse countedFeed feederOf reads hearsAudio isAudio controls audios planOrder planPlace readOf slewFor inputOf routeOf routesInto planOf plansOf allRoutes order secondsOf ratePerSample max32 isNan lt eq mul div
+p59 = (refl, refl, refl, refl)
 
 -- gen.py 206
-w59 : Wiring
-w59 =
+w60 : Wiring
+w60 =
     wired (fin false 125 (pos 3))
     (source (K.Signal) S.Voice R.Unipolar ∷ source (K.Signal) S.Voice R.Bipolar ∷ source (K.Random) S.Voice R.Unipolar ∷ source (K.VoiceLoad) S.Global R.Unipolar ∷ [])
     (record { target = (A.Param 0); scope = S.Global; rate = T.Control; min = (fin false 3900787 (negsuc 21)); max = (inf false); feed = F.Nothing } ∷ record { target = (A.Param 7); scope = S.Voice; rate = T.Audio; min = (fin true 1 (pos 0)); max = (fin false 1 (pos 0)); feed = F.Nothing } ∷ record { target = (A.Param 14); scope = S.Global; rate = T.Adaptive; min = (fin false 0 (pos 0)); max = (fin false 1 (pos 0)); feed = F.Nothing } ∷ record { target = (A.Param 21); scope = S.Global; rate = T.Control; min = (inf true); max = (inf false); feed = F.Nothing } ∷ record { target = (A.Param 28); scope = S.Global; rate = T.Audio; min = (fin true 1 (pos 0)); max = (fin false 1 (pos 0)); feed = F.Nothing } ∷ record { target = (A.Param 35); scope = S.Voice; rate = T.Adaptive; min = (inf true); max = (inf false); feed = (F.Source 1) } ∷ [])
     (record { source = P.Source 1; «source_curve» = C.Table (fin false 0 (pos 0)) (fin false 8589935 (negsuc 32)); amount = (fin false 1 (negsuc 0)); polarity = Q.Unipolar; destination = M.At (A.Param 35); aux = P.Nothing; «aux_invert» = false; «aux_curve» = C.Linear; output = (fin false 1 (pos 0)); bypass = false } ∷ record { source = P.Source 1; «source_curve» = C.Table (fin false 0 (pos 0)) (fin false 0 (pos 0)); amount = (fin false 1 (pos 0)); polarity = Q.Bipolar; destination = M.At (A.Param 14); aux = P.Nothing; «aux_invert» = false; «aux_curve» = C.Linear; output = (fin false 9816459 (negsuc 27)); bypass = false } ∷ record { source = P.Source 0; «source_curve» = C.Linear; amount = (fin true 1 (pos 0)); polarity = Q.Unipolar; destination = M.At (A.Param 21); aux = P.Nothing; «aux_invert» = false; «aux_curve» = C.Linear; output = (fin false 1 (pos 0)); bypass = false } ∷ [])
 
-p59 : Compiles w59
+p60 : Compiles w60
     (record { dest = 2; voice = false; audio = false; min = (fin false 0 (pos 0)); max = (fin false 1 (pos 0)); base = B.Set; first = 0; count = 1 } ∷ record { dest = 3; voice = false; audio = false; min = (inf true); max = (inf false); base = B.Set; first = 1; count = 1 } ∷ record { dest = 5; voice = true; audio = false; min = (inf true); max = (inf false); base = B.Set; first = 2; count = 1 } ∷ [])
     3
     (record { slot = 1; source = record { read = D.Signal 1 true; bipolar = true; table = true; slew = L.Free }; aux = X.Missing; «aux_invert» = false; bipolar = true; amount = G.Live; output = G.Live; voice = true; scale = (fin false 1 (pos 0)); offset = (fin false 0 (pos 0)); simple = false } ∷ record { slot = 2; source = record { read = D.Signal 0 true; bipolar = false; table = false; slew = L.Free }; aux = X.Missing; «aux_invert» = false; bipolar = false; amount = G.Live; output = G.Live; voice = true; scale = (fin false 1 (pos 0)); offset = (fin false 0 (pos 0)); simple = false } ∷ record { slot = 0; source = record { read = D.Signal 1 true; bipolar = true; table = true; slew = L.Limit (inf false) (fin false 1 (pos 0)) }; aux = X.Missing; «aux_invert» = false; bipolar = false; amount = G.Live; output = G.Live; voice = true; scale = (fin false 1 (negsuc 0)); offset = (fin false 1 (negsuc 0)); simple = false } ∷ [])
     ([])
-unfolding w59 targetPlace verdict candidatesFrom skippedFrom candidates skippedOf inUse countedFeed feederOf reads hearsAudio isAudio controls audios planOrder planPlace readOf slewFor inputOf routeOf routesInto planOf plansOf allRoutes order secondsOf ratePerSample max32 isNan lt eq mul div
-p59 = (refl, refl, refl, refl)
+unfolding w60 targetPlace verdict candidatesFrom skippedFrom candidates skippedOf inUse countedFeed feederOf reads hearsAudio isAudio controls audios planOrder planPlace readOf slewFor inputOf routeOf routesInto planOf plansOf allRoutes order secondsOf ratePerSample max32 isNan lt eq mul div
+p60 = (refl, refl, refl, refl)
 
 -- gen.py 348
-w60 : Wiring
-w60 =
+w61 : Wiring
+w61 =
     wired (fin false 1 (pos 6))
     (source (K.ReleaseVelocity) S.Voice R.Unipolar ∷ source (K.Audio) S.Voice R.Bipolar ∷ source (K.Velocity) S.Voice R.Unipolar ∷ source (K.Audio) S.Voice R.Bipolar ∷ source (K.Alternate false) S.Voice R.Bipolar ∷ source (K.Audio) S.Global R.Bipolar ∷ source (K.Held) S.Voice R.Bipolar ∷ source (K.Alternate false) S.Voice R.Unipolar ∷ [])
     (record { target = (A.Param 0); scope = S.Global; rate = T.Adaptive; min = (fin true 0 (pos 0)); max = (fin false 1 (pos 0)); feed = F.Nothing } ∷ record { target = (A.Param 7); scope = S.Voice; rate = T.Adaptive; min = (inf true); max = (fin false 0 (pos 0)); feed = F.Nothing } ∷ [])
     (record { source = P.Source 1; «source_curve» = C.Table (fin false 0 (pos 0)) (fin false 0 (pos 0)); amount = (fin false 1 (negsuc 0)); polarity = Q.Bipolar; destination = M.At (A.Param 7); aux = P.Nothing; «aux_invert» = false; «aux_curve» = C.Linear; output = (fin false 1 (negsuc 0)); bypass = true } ∷ record { source = P.Source 0; «source_curve» = C.Linear; amount = (fin true 1 (pos 0)); polarity = Q.Unipolar; destination = M.At (A.Param 0); aux = P.Nothing; «aux_invert» = false; «aux_curve» = C.Linear; output = (fin false 15389841 (negsuc 23)); bypass = false } ∷ record { source = P.Source 5; «source_curve» = C.Linear; amount = (fin true 0 (pos 0)); polarity = Q.Bipolar; destination = M.At (A.Param 0); aux = P.Nothing; «aux_invert» = false; «aux_curve» = C.Linear; output = (fin false 0 (pos 0)); bypass = false } ∷ record { source = P.Source 3; «source_curve» = C.Linear; amount = (fin true 2969159 (negsuc 22)); polarity = Q.Unipolar; destination = M.At (A.Param 999999999); aux = P.Source 7; «aux_invert» = true; «aux_curve» = C.Linear; output = (fin false 1 (pos 0)); bypass = false } ∷ [])
 
-p60 : Compiles w60
+p61 : Compiles w61
     (record { dest = 0; voice = false; audio = true; min = (fin true 0 (pos 0)); max = (fin false 1 (pos 0)); base = B.Set; first = 0; count = 2 } ∷ [])
     0
     (record { slot = 1; source = record { read = D.Held 0 true; bipolar = false; table = false; slew = L.Free }; aux = X.Missing; «aux_invert» = false; bipolar = false; amount = G.Live; output = G.Live; voice = true; scale = (fin false 1 (pos 0)); offset = (fin false 0 (pos 0)); simple = false } ∷ record { slot = 2; source = record { read = D.Signal 5 false; bipolar = true; table = false; slew = L.Free }; aux = X.Missing; «aux_invert» = false; bipolar = true; amount = G.Live; output = G.Live; voice = false; scale = (fin false 1 (pos 0)); offset = (fin false 0 (pos 0)); simple = false } ∷ [])
     (record { slot = 3; reason = E.UnknownDestination } ∷ [])
-unfolding w60 targetPlace verdict candidatesFrom skippedFrom candidates skippedOf inUse countedFeed feederOf reads hearsAudio isAudio controls audios planOrder planPlace readOf slewFor inputOf routeOf routesInto planOf plansOf allRoutes order secondsOf ratePerSample max32 isNan lt eq mul div
-p60 = (refl, refl, refl, refl)
+unfolding w61 targetPlace verdict candidatesFrom skippedFrom candidates skippedOf inUse countedFeed feederOf reads hearsAudio isAudio controls audios planOrder planPlace readOf slewFor inputOf routeOf routesInto planOf plansOf allRoutes order secondsOf ratePerSample max32 isNan lt eq mul div
+p61 = (refl, refl, refl, refl)
 
 -- gen.py 354
-w61 : Wiring
-w61 =
+w62 : Wiring
+w62 =
     wired (fin false 1 (pos 6))
     (source (K.Held) S.Global R.Unipolar ∷ source (K.Held) S.Global R.Unipolar ∷ source (K.Held) S.Global R.Unipolar ∷ source (K.Held) S.Global R.Unipolar ∷ source (K.Held) S.Global R.Bipolar ∷ source (K.Constant) S.Global R.Unipolar ∷ source (K.Constant) S.Voice R.Unipolar ∷ source (K.Constant) S.Global R.Unipolar ∷ source (K.Held) S.Voice R.Unipolar ∷ source (K.Velocity) S.Voice R.Unipolar ∷ [])
     (record { target = (A.LfoBus 0 0); scope = S.Voice; rate = T.Audio; min = (fin true 1286415 (negsuc 19)); max = (fin true 237839 (negsuc 19)); feed = (F.Amount 0) } ∷ record { target = (A.LfoBus 1 0); scope = S.Global; rate = T.Control; min = (inf true); max = (inf false); feed = (F.Amount 3) } ∷ record { target = (A.LfoBus 2 0); scope = S.Voice; rate = T.Control; min = (inf true); max = (inf false); feed = (F.Amount 3) } ∷ record { target = (A.Param 21); scope = S.Voice; rate = T.Control; min = (fin false 0 (pos 0)); max = (fin false 1 (pos 0)); feed = (F.Amount 0) } ∷ record { target = (A.Param 28); scope = S.Global; rate = T.Control; min = (inf true); max = (inf false); feed = F.Nothing } ∷ record { target = (A.Param 35); scope = S.Global; rate = T.Control; min = (inf true); max = (fin false 0 (pos 0)); feed = (F.Output 1) } ∷ record { target = (A.Param 42); scope = S.Global; rate = T.Control; min = (fin true 11572919 (negsuc 23)); max = (fin false 8896925 (negsuc 21)); feed = (F.Source 1) } ∷ record { target = (A.Param 49); scope = S.Voice; rate = T.Adaptive; min = (inf true); max = (fin false 0 (pos 0)); feed = (F.Amount 3) } ∷ record { target = (A.Param 56); scope = S.Global; rate = T.Audio; min = (inf true); max = (fin false 0 (pos 0)); feed = F.Nothing } ∷ record { target = (A.LfoBus 9 0); scope = S.Voice; rate = T.Control; min = (inf true); max = (inf false); feed = (F.Output 6) } ∷ record { target = (A.Param 70); scope = S.Global; rate = T.Control; min = (inf true); max = (inf false); feed = (F.Output 6) } ∷ [])
     (record { source = P.Source 2; «source_curve» = C.Linear; amount = (fin true 6694217 (negsuc 22)); polarity = Q.Bipolar; destination = M.At (A.Param 35); aux = P.Nothing; «aux_invert» = false; «aux_curve» = C.Linear; output = (fin false 1 (pos 0)); bypass = false } ∷ record { source = P.Source 1; «source_curve» = C.Linear; amount = (fin false 3571109 (negsuc 21)); polarity = Q.Bipolar; destination = M.At (A.LfoBus 0 0); aux = P.Nothing; «aux_invert» = false; «aux_curve» = C.Linear; output = (fin false 1 (pos 0)); bypass = false } ∷ record { source = P.Nothing; «source_curve» = C.Linear; amount = (fin false 1086831 (negsuc 20)); polarity = Q.Bipolar; destination = M.At (A.LfoBus 0 0); aux = P.Nothing; «aux_invert» = false; «aux_curve» = C.Linear; output = (fin false 1 (pos 0)); bypass = false } ∷ record { source = P.Source 1; «source_curve» = C.Linear; amount = (fin false 10678225 (negsuc 25)); polarity = Q.Bipolar; destination = M.At (A.LfoBus 1 0); aux = P.Nothing; «aux_invert» = false; «aux_curve» = C.Linear; output = (fin false 1 (pos 0)); bypass = false } ∷ unused ∷ record { source = P.Source 9; «source_curve» = C.Linear; amount = (fin true 16520017 (negsuc 23)); polarity = Q.Bipolar; destination = M.At (A.Param 70); aux = P.Nothing; «aux_invert» = false; «aux_curve» = C.Linear; output = (fin false 1 (pos 0)); bypass = false } ∷ record { source = P.Source 8; «source_curve» = C.Linear; amount = (fin false 4174735 (negsuc 21)); polarity = Q.Bipolar; destination = M.At (A.LfoBus 9 0); aux = P.Nothing; «aux_invert» = false; «aux_curve» = C.Linear; output = (fin false 1 (pos 0)); bypass = false } ∷ [])
 
-p61 : Compiles w61
+p62 : Compiles w62
     (record { dest = 1; voice = false; audio = false; min = (inf true); max = (inf false); base = B.Amount 3; first = 0; count = 1 } ∷ record { dest = 10; voice = false; audio = false; min = (inf true); max = (inf false); base = B.Output 6; first = 1; count = 1 } ∷ record { dest = 9; voice = true; audio = false; min = (inf true); max = (inf false); base = B.Output 6; first = 2; count = 1 } ∷ record { dest = 0; voice = true; audio = false; min = (fin true 1286415 (negsuc 19)); max = (fin true 237839 (negsuc 19)); base = B.Amount 0; first = 3; count = 1 } ∷ record { dest = 5; voice = false; audio = false; min = (inf true); max = (fin false 0 (pos 0)); base = B.Output 1; first = 4; count = 1 } ∷ [])
     5
     (record { slot = 3; source = record { read = D.Held 1 false; bipolar = false; table = false; slew = L.Free }; aux = X.Missing; «aux_invert» = false; bipolar = true; amount = G.Fed 0 false; output = G.Live; voice = false; scale = (fin false 1 (pos 1)); offset = (fin true 1 (pos 0)); simple = false } ∷ record { slot = 5; source = record { read = D.Held 9 true; bipolar = false; table = false; slew = L.Free }; aux = X.Missing; «aux_invert» = false; bipolar = true; amount = G.Live; output = G.Live; voice = true; scale = (fin false 1 (pos 1)); offset = (fin true 1 (pos 0)); simple = false } ∷ record { slot = 6; source = record { read = D.Held 8 true; bipolar = false; table = false; slew = L.Free }; aux = X.Missing; «aux_invert» = false; bipolar = true; amount = G.Live; output = G.Fed 1 false; voice = true; scale = (fin false 1 (pos 1)); offset = (fin true 1 (pos 0)); simple = false } ∷ record { slot = 1; source = record { read = D.Held 1 false; bipolar = false; table = false; slew = L.Free }; aux = X.Missing; «aux_invert» = false; bipolar = true; amount = G.Live; output = G.Fed 4 false; voice = false; scale = (fin false 1 (pos 1)); offset = (fin true 1 (pos 0)); simple = false } ∷ record { slot = 0; source = record { read = D.Held 2 false; bipolar = false; table = false; slew = L.Free }; aux = X.Missing; «aux_invert» = false; bipolar = true; amount = G.Fed 3 true; output = G.Live; voice = true; scale = (fin false 1 (pos 1)); offset = (fin true 1 (pos 0)); simple = false } ∷ [])
     ([])
-unfolding w61 targetPlace verdict candidatesFrom skippedFrom candidates skippedOf inUse countedFeed feederOf reads hearsAudio isAudio controls audios planOrder planPlace readOf slewFor inputOf routeOf routesInto planOf plansOf allRoutes order secondsOf ratePerSample max32 isNan lt eq mul div
-p61 = (refl, refl, refl, refl)
+unfolding w62 targetPlace verdict candidatesFrom skippedFrom candidates skippedOf inUse countedFeed feederOf reads hearsAudio isAudio controls audios planOrder planPlace readOf slewFor inputOf routeOf routesInto planOf plansOf allRoutes order secondsOf ratePerSample max32 isNan lt eq mul div
+p62 = (refl, refl, refl, refl)
 
 -- gen.py 368
-w62 : Wiring
-w62 =
+w63 : Wiring
+w63 =
     wired (fin false 1953125 (pos 9))
     (source (K.Signal) S.Global R.Unipolar ∷ source (K.Signal) S.Voice R.Unipolar ∷ [])
     (record { target = (A.Param 0); scope = S.Global; rate = T.Control; min = (fin true 1 (pos 0)); max = (fin false 1 (pos 0)); feed = F.Nothing } ∷ record { target = (A.Param 7); scope = S.Voice; rate = T.Adaptive; min = (fin false 0 (pos 0)); max = (fin false 1 (pos 0)); feed = (F.Output 1) } ∷ record { target = (A.Param 14); scope = S.Global; rate = T.Audio; min = (inf true); max = (inf false); feed = (F.Output 1) } ∷ record { target = (A.Param 21); scope = S.Global; rate = T.Adaptive; min = (inf true); max = (inf false); feed = F.Nothing } ∷ [])
     (record { source = P.Nothing; «source_curve» = C.Linear; amount = (fin false 0 (pos 0)); polarity = Q.Unipolar; destination = M.Nothing; aux = P.Nothing; «aux_invert» = false; «aux_curve» = C.Linear; output = (fin false 1 (pos 0)); bypass = false } ∷ record { source = P.Source 0; «source_curve» = C.Linear; amount = (fin false 1 (negsuc 0)); polarity = Q.Bipolar; destination = M.At (A.Param 14); aux = P.Nothing; «aux_invert» = false; «aux_curve» = C.Linear; output = (fin false 1 (pos 0)); bypass = false } ∷ record { source = P.Source 128; «source_curve» = C.Linear; amount = (fin true 1 (pos 0)); polarity = Q.Unipolar; destination = M.At (A.Param 14); aux = P.Nothing; «aux_invert» = false; «aux_curve» = C.Linear; output = (fin false 1 (pos 0)); bypass = true } ∷ [])
 
-p62 : Compiles w62
+p63 : Compiles w63
     (record { dest = 2; voice = false; audio = false; min = (inf true); max = (inf false); base = B.Output 1; first = 0; count = 1 } ∷ [])
     1
     (record { slot = 1; source = record { read = D.Signal 0 false; bipolar = false; table = false; slew = L.Free }; aux = X.Missing; «aux_invert» = false; bipolar = true; amount = G.Live; output = G.Fed 0 false; voice = false; scale = (fin false 1 (pos 1)); offset = (fin true 1 (pos 0)); simple = false } ∷ [])
     ([])
-unfolding w62 targetPlace verdict candidatesFrom skippedFrom candidates skippedOf inUse countedFeed feederOf reads hearsAudio isAudio controls audios planOrder planPlace readOf slewFor inputOf routeOf routesInto planOf plansOf allRoutes order secondsOf ratePerSample max32 isNan lt eq mul div
-p62 = (refl, refl, refl, refl)
+unfolding w63 targetPlace verdict candidatesFrom skippedFrom candidates skippedOf inUse countedFeed feederOf reads hearsAudio isAudio controls audios planOrder planPlace readOf slewFor inputOf routeOf routesInto planOf plansOf allRoutes order secondsOf ratePerSample max32 isNan lt eq mul div
+p63 = (refl, refl, refl, refl)
