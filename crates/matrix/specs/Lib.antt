@@ -1,4 +1,0 @@
-pub mod Slots
-pub mod Tables
-pub mod Edits
-pub mod Examples
