@@ -1,4 +1,4 @@
-/* xorshift64*, after the reference code in S. Vigna, "An experimental exploration of
+/* xorshift64*, after the algorithm in S. Vigna, "An experimental exploration of
    Marsaglia's xorshift generators, scrambled" (amounts 12, 25, 27; multiplier
    2685821657736338717). The algorithm is in the public domain.
 

@@ -1,5 +1,5 @@
 // Replays stored answers for the leaves: table lookups, slew rates and slew steps as the Rust gives them, and draws
-// as the paper's own code gives them. Prints, for each list, how many lines it has and how many of them differ.
+// as xorshift64* in C gives them. Prints, for each list, how many lines it has and how many of them differ.
 ghost use mathlib.Core.Path.{_≡_};
 ghost use Prim.Native.Nat.{_≤_};
 ghost use lib.ListN.{length};
