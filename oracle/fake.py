@@ -1,5 +1,5 @@
 #!/usr/bin/env python3
-"""A stand-in for the port, to test compare.py: the oracle, answering `CODE n` where a line `#= CODE n` says so, and the
+"""A stand-in for the port, to test compare.py: the oracle, answering `REFUSED n` where a line `#= REFUSED n` says so, and the
 text of any other line `#= TEXT`.
 
 FAKE in the environment makes it wrong at one line: `code LINE` answers another number, `accept LINE` makes the call
@@ -25,7 +25,7 @@ def answer(text, fault="", line=0):
             printed[at] = []
         elif l:
             printed.setdefault(at, []).append(l)
-    said = {**{n: "CODE %d" % (c + (fault == "code" and n == line)) for n, c in codes.items()}, **other}
+    said = {**{n: "REFUSED %d" % (c + (fault == "code" and n == line)) for n, c in codes.items()}, **other}
     printed.update({n: [x] for n, x in said.items() if not (fault == "accept" and n == line)})
     lines = text.split("\n")
     result = []

@@ -807,7 +807,7 @@ def with_refused(seed, text):
             w = x.split()
             row = None if w[0].startswith("#") else judge.line(w)
             if row and x is not line:
-                out.append("#= CODE %d" % row)
+                out.append("#= REFUSED %d" % row)
             out.append(x)
     return "\n".join(out) + "\n"
 

@@ -316,10 +316,10 @@ def above(text):
 
 
 def stated(text):
-    """Line number to the number that a line `#= CODE n` directly above states."""
-    return {n: int(w[1]) for n, w in above(text).items() if w[0] == "CODE"}
+    """Line number to the number that a line `#= REFUSED n` directly above states."""
+    return {n: int(w[1]) for n, w in above(text).items() if w[0] == "REFUSED"}
 
 
 def answers(text):
     """Line number to what the port prints, by any other line `#= ...` directly above: an accepted call at which the Rust panics."""
-    return {n: " ".join(w) for n, w in above(text).items() if w[0] != "CODE"}
+    return {n: " ".join(w) for n, w in above(text).items() if w[0] != "REFUSED"}

@@ -242,7 +242,7 @@ def main():
     print("programs: %d examples" % len(found))
 
 
-UNFOLDED = ("targetPlace verdict candidatesFrom skippedFrom candidates skippedOf inUse countedFeed feederOf reads hearsAudio "
-            "isAudio controls audios planOrder planPlace readOf slewFor inputOf routeOf routesInto planOf plansOf allRoutes order secondsOf "
+UNFOLDED = ("targetPlace verdict verdictsFrom verdicts candidates skippedOf inUse countedFeed usedDests feederOf readersOf reads "
+            "hearsAudio isAudio controls audios planOrder slewFor inputBy routeBy routeIn planBy plansOf allRoutes order secondsOf "
             "ratePerSample max32 isNan lt eq mul div")
 main()

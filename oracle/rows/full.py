@@ -3,7 +3,7 @@
 
 
 def refused(code, line):
-    print("#= CODE %d\n%s" % (code, line))
+    print("#= REFUSED %d\n%s" % (code, line))
 
 
 def main():

@@ -3,3 +3,4 @@ pub mod Filled
 pub mod Parts
 pub mod FilledPart
 pub mod Rows
+pub mod Padded

@@ -1,3 +1,4 @@
 pub mod Fill
 pub mod Part
 pub mod Rows
+pub mod Padded

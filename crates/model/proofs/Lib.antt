@@ -1,2 +1,9 @@
 pub mod CasesHold
 pub mod NeedBound
+pub mod Candidates
+pub mod RouteCount
+pub mod InUse
+pub mod Ordered
+pub mod LayoutHolds
+pub mod ProgramLayout
+pub mod Made

@@ -3,13 +3,39 @@
 use mathlib.Core.Bool.{true, false}
 use mathlib.Core.List.{List, [], _∷_, map}
 use Prim.Native.Nat.{ℕ}
-use lib.IntN.{pos}
+use lib.IntN.{pos, negsuc}
+use lib.ListN.{length, getD}
 use lib.Ieee.{Float, fin, inf, binary32, toBits}
-use Rattle.number.specs.Number.{zero32, half32, one32}
+use Rattle.number.specs.Number.{zero32, half32, one32, plus, times}
 use Rattle.draw.specs.Xorshift.{step}
 use Rattle.config.specs.Sizes.{laneStride}
 use Rattle.table.specs.Table.{lookupOf, tabulated, diagonalAt}
+use Rattle.table.specs.declared.Curve.the-variants as C
 use Rattle.slew.specs.Slew.{ratePerSample, reach, slewStep}
+use Rattle.state.specs.declared.Kind.{Kind}
+use Rattle.state.specs.declared.Kind.the-variants as K
+use Rattle.state.specs.declared.Scope.the-variants as S
+use Rattle.state.specs.declared.Range.{Range}
+use Rattle.state.specs.declared.Range.the-variants as R
+use Rattle.state.specs.declared.Rate.the-variants as T
+use Rattle.state.specs.declared.Feed.{Feed}
+use Rattle.state.specs.declared.Feed.the-variants as F
+use Rattle.state.specs.declared.Target.the-variants as G
+use Rattle.state.specs.declared.Pick.the-variants as P
+use Rattle.state.specs.declared.Aim.the-variants as M
+use Rattle.state.specs.declared.Polarity.{Polarity}
+use Rattle.state.specs.declared.Polarity.the-variants as Q
+use Rattle.state.specs.declared.NoteCurve.the-variants as N
+use Rattle.state.specs.declared.Source.{Source}
+use Rattle.state.specs.declared.Dest.{Dest}
+use Rattle.state.specs.declared.Slot.{Slot}
+use Rattle.state.specs.declared.Plan.{Plan}
+use Rattle.state.specs.declared.Route.{Route}
+use Rattle.state.specs.declared.Program.{Program}
+use Rattle.state.specs.declared.Wiring.{Wiring}
+use Rattle.slot.specs.Slots.{keptAmount}
+use Rattle.filled.specs.Filled.{noRoute}
+use Rattle.model.specs.Plans.{plansOf, compiled}
 
 pub record Case : Type 0 where
   pub number : ℕ
@@ -18,6 +44,61 @@ pub record Case : Type 0 where
 
 abbrev pub bits : List Float → List ℕ
 bits xs = map (toBits binary32) xs
+
+-- ---- wirings: sources without keys, destinations from 0 to 1 at control rate, slots with a source, an amount and a destination
+
+abbrev source : Kind → Range → Source
+source k r = record { key = []; len = 0; kind = k; scope = S.Global; range = r }
+
+-- parameter n, with a feed
+abbrev dest : ℕ → Feed → Dest
+dest n f = record { target = G.Param n; scope = S.Global; rate = T.Control; min = zero32; max = one32; feed = f }
+
+-- from source i to parameter n
+abbrev slot : ℕ → ℕ → Float → Polarity → Slot
+slot i n amount p =
+    record {
+      source = P.Source i;
+      «source_curve» = C.Linear;
+      amount = amount;
+      polarity = p;
+      destination = M.At (G.Param n);
+      aux = P.Nothing;
+      «aux_invert» = false;
+      «aux_curve» = C.Linear;
+      output = one32;
+      bypass = false;
+    }
+
+abbrev wired : List Source → List Dest → List Slot → Wiring
+wired ss ds l =
+    record {
+      matrix = record { slot = l; velocity = N.Linear; key = N.Linear; glide = false; «velocity_legato» = false };
+      sources = record { count = length ss; entry = ss };
+      dests = record { count = length ds; entry = ds };
+      config = record { «sample_rate» = one32; «max_frames» = 0; voices = 0 };
+    }
+
+-- destination n feeds source n, for n up to 2; source 3 is a constant
+abbrev feeding : List Slot → Wiring
+feeding l =
+    let held = source K.Held R.Unipolar in
+    wired (held ∷ held ∷ held ∷ source K.Constant R.Unipolar ∷ []) (dest 0 (F.Source 0) ∷ dest 1 (F.Source 1) ∷ dest 2 (F.Source 2) ∷ []) l
+
+-- the destinations of the plans in their order
+abbrev ordered : Wiring → List ℕ
+ordered w = map (λ (p : Plan). p .dest) (plansOf w)
+
+abbrev route : ℕ → ℕ → Slot
+route i n = slot i n one32 Q.Unipolar
+
+-- "Feeds 2→0, 1→2 (a→b: b reads a): order 1, 2, 0."
+unfoldable pub case1 : Case
+case1 = record { number = 1; found = ordered (feeding (route 2 0 ∷ route 3 1 ∷ route 1 2 ∷ [])); expected = 1 ∷ 2 ∷ 0 ∷ [] }
+
+-- "Feeds 0→1, 1→0, 2 free: order 2, 0, 1."
+unfoldable pub case2 : Case
+case2 = record { number = 2; found = ordered (feeding (route 1 0 ∷ route 0 1 ∷ route 3 2 ∷ [])); expected = 2 ∷ 0 ∷ 1 ∷ [] }
 
 -- "Voices 0, 16, 17: stride 16, 16, 32."
 unfoldable pub case3 : Case
@@ -49,9 +130,34 @@ case7 =
       expected = 0x3f00_0000 ∷ 0x3f80_0000 ∷ 0 ∷ [];
     }
 
+-- one bipolar source into a slot of that amount and polarity
+abbrev one : Float → Polarity → Program
+one amount p = compiled (wired (source K.Signal R.Bipolar ∷ []) (dest 0 F.Nothing ∷ []) (slot 0 0 amount p ∷ []))
+
+-- "Bipolar source, linear, into a bipolar slot: unchanged, not halved and doubled." Halving loses the smallest number.
+unfoldable pub case9 : Case
+case9 =
+    let r : Route = getD (one one32 Q.Bipolar .route) 0 noRoute in
+    let least = fin false 1 (negsuc 148) in
+    record {
+      number = 9;
+      found = bits (r .scale ∷ r .offset ∷ plus (times least (r .scale)) (r .offset) ∷ []);
+      expected = 0x3f80_0000 ∷ 0 ∷ 1 ∷ [];
+    }
+
+-- "The amount setter keeps 1.5 as 1, −2 as −1; compiling clamps nothing."
+unfoldable pub case11 : Case
+case11 =
+    let more = fin false 3 (negsuc 0) in
+    record {
+      number = 11;
+      found = bits (keptAmount more ∷ keptAmount (fin true 1 (pos 1)) ∷ one more Q.Unipolar .gains .amount);
+      expected = 0x3f80_0000 ∷ 0xbf80_0000 ∷ 0x3fc0_0000 ∷ [];
+    }
+
 -- "Draw state 1 becomes 33,554,433."
 unfoldable pub case12 : Case
 case12 = record { number = 12; found = step 1 ∷ []; expected = 33554433 ∷ [] }
 
 unfoldable pub cases : List Case
-cases = case3 ∷ case6 ∷ case7 ∷ case12 ∷ []
+cases = case1 ∷ case2 ∷ case3 ∷ case6 ∷ case7 ∷ case9 ∷ case11 ∷ case12 ∷ []

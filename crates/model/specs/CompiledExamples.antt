@@ -37,10 +37,11 @@ use Rattle.state.specs.declared.Route.{Route}
 use Rattle.state.specs.declared.Reason.the-variants as E
 use Rattle.state.specs.declared.Skipped.{Skipped}
 use Rattle.state.specs.Registry.{targetPlace}
-use Rattle.model.specs.Wiring.{Wiring, verdict, candidatesFrom, skippedFrom, candidates, skippedOf}
-use Rattle.model.specs.Feeds.{inUse, countedFeed, feederOf, reads, hearsAudio, isAudio, controls, audios, planOrder}
-use Rattle.model.specs.Routes.{planPlace, readOf, slewFor, inputOf, routeOf}
-use Rattle.model.specs.Plans.{routesInto, planOf, plansOf, allRoutes}
+use Rattle.state.specs.declared.Wiring.{Wiring}
+use Rattle.model.specs.Wiring.{verdict, verdictsFrom, verdicts, candidates, skippedOf}
+use Rattle.model.specs.Feeds.{inUse, countedFeed, usedDests, feederOf, readersOf, reads, hearsAudio, isAudio, controls, audios, planOrder}
+use Rattle.model.specs.Routes.{slewFor, inputBy, routeBy, routeIn}
+use Rattle.model.specs.Plans.{planBy, plansOf, allRoutes}
 
 abbrev source : Kind → Scope → Range → Source
 source k s r = record { key = []; len = 0; kind = k; scope = s; range = r }
@@ -75,7 +76,7 @@ p0 : Compiles w0
     3
     (record { slot = 1; source = record { read = D.Constant; bipolar = false; table = false; slew = L.Free }; aux = X.Missing; «aux_invert» = false; bipolar = false; amount = G.Live; output = G.Live; voice = false; scale = (fin false 1 (pos 0)); offset = (fin false 0 (pos 0)); simple = false } ∷ record { slot = 2; source = record { read = D.Fed 0 false; bipolar = false; table = false; slew = L.Free }; aux = X.Missing; «aux_invert» = false; bipolar = false; amount = G.Live; output = G.Live; voice = false; scale = (fin false 1 (pos 0)); offset = (fin false 0 (pos 0)); simple = false } ∷ record { slot = 0; source = record { read = D.Fed 1 false; bipolar = false; table = false; slew = L.Free }; aux = X.Missing; «aux_invert» = false; bipolar = false; amount = G.Live; output = G.Live; voice = false; scale = (fin false 1 (pos 0)); offset = (fin false 0 (pos 0)); simple = false } ∷ [])
     ([])
-unfolding w0 targetPlace verdict candidatesFrom skippedFrom candidates skippedOf inUse countedFeed feederOf reads hearsAudio isAudio controls audios planOrder planPlace readOf slewFor inputOf routeOf routesInto planOf plansOf allRoutes order secondsOf ratePerSample max32 isNan lt eq mul div
+unfolding w0 targetPlace verdict verdictsFrom verdicts candidates skippedOf inUse countedFeed usedDests feederOf readersOf reads hearsAudio isAudio controls audios planOrder slewFor inputBy routeBy routeIn planBy plansOf allRoutes order secondsOf ratePerSample max32 isNan lt eq mul div
 p0 = (refl, refl, refl, refl)
 
 -- cases/02-cycle.txt
@@ -91,7 +92,7 @@ p1 : Compiles w1
     3
     (record { slot = 2; source = record { read = D.Constant; bipolar = false; table = false; slew = L.Free }; aux = X.Missing; «aux_invert» = false; bipolar = false; amount = G.Live; output = G.Live; voice = false; scale = (fin false 1 (pos 0)); offset = (fin false 0 (pos 0)); simple = false } ∷ record { slot = 0; source = record { read = D.Fed 2 false; bipolar = false; table = false; slew = L.Free }; aux = X.Missing; «aux_invert» = false; bipolar = false; amount = G.Live; output = G.Live; voice = false; scale = (fin false 1 (pos 0)); offset = (fin false 0 (pos 0)); simple = false } ∷ record { slot = 1; source = record { read = D.Fed 1 false; bipolar = false; table = false; slew = L.Free }; aux = X.Missing; «aux_invert» = false; bipolar = false; amount = G.Live; output = G.Live; voice = false; scale = (fin false 1 (pos 0)); offset = (fin false 0 (pos 0)); simple = false } ∷ [])
     ([])
-unfolding w1 targetPlace verdict candidatesFrom skippedFrom candidates skippedOf inUse countedFeed feederOf reads hearsAudio isAudio controls audios planOrder planPlace readOf slewFor inputOf routeOf routesInto planOf plansOf allRoutes order secondsOf ratePerSample max32 isNan lt eq mul div
+unfolding w1 targetPlace verdict verdictsFrom verdicts candidates skippedOf inUse countedFeed usedDests feederOf readersOf reads hearsAudio isAudio controls audios planOrder slewFor inputBy routeBy routeIn planBy plansOf allRoutes order secondsOf ratePerSample max32 isNan lt eq mul div
 p1 = (refl, refl, refl, refl)
 
 -- cases/04-chunks.txt
@@ -107,7 +108,7 @@ p2 : Compiles w2
     1
     (record { slot = 0; source = record { read = D.Constant; bipolar = false; table = false; slew = L.Free }; aux = X.Missing; «aux_invert» = false; bipolar = false; amount = G.Live; output = G.Live; voice = false; scale = (fin false 1 (pos 0)); offset = (fin false 0 (pos 0)); simple = false } ∷ [])
     ([])
-unfolding w2 targetPlace verdict candidatesFrom skippedFrom candidates skippedOf inUse countedFeed feederOf reads hearsAudio isAudio controls audios planOrder planPlace readOf slewFor inputOf routeOf routesInto planOf plansOf allRoutes order secondsOf ratePerSample max32 isNan lt eq mul div
+unfolding w2 targetPlace verdict verdictsFrom verdicts candidates skippedOf inUse countedFeed usedDests feederOf readersOf reads hearsAudio isAudio controls audios planOrder slewFor inputBy routeBy routeIn planBy plansOf allRoutes order secondsOf ratePerSample max32 isNan lt eq mul div
 p2 = (refl, refl, refl, refl)
 
 -- cases/06-lookup.txt
@@ -123,7 +124,7 @@ p3 : Compiles w3
     0
     ([])
     ([])
-unfolding w3 targetPlace verdict candidatesFrom skippedFrom candidates skippedOf inUse countedFeed feederOf reads hearsAudio isAudio controls audios planOrder planPlace readOf slewFor inputOf routeOf routesInto planOf plansOf allRoutes order secondsOf ratePerSample max32 isNan lt eq mul div
+unfolding w3 targetPlace verdict verdictsFrom verdicts candidates skippedOf inUse countedFeed usedDests feederOf readersOf reads hearsAudio isAudio controls audios planOrder slewFor inputBy routeBy routeIn planBy plansOf allRoutes order secondsOf ratePerSample max32 isNan lt eq mul div
 p3 = (refl, refl, refl, refl)
 
 -- cases/07-slew.txt
@@ -139,7 +140,7 @@ p4 : Compiles w4
     1
     (record { slot = 0; source = record { read = D.Held 0 false; bipolar = false; table = true; slew = L.Limit (fin false 1 (negsuc 5)) (inf false) }; aux = X.Missing; «aux_invert» = false; bipolar = false; amount = G.Live; output = G.Live; voice = false; scale = (fin false 1 (pos 0)); offset = (fin false 0 (pos 0)); simple = false } ∷ [])
     ([])
-unfolding w4 targetPlace verdict candidatesFrom skippedFrom candidates skippedOf inUse countedFeed feederOf reads hearsAudio isAudio controls audios planOrder planPlace readOf slewFor inputOf routeOf routesInto planOf plansOf allRoutes order secondsOf ratePerSample max32 isNan lt eq mul div
+unfolding w4 targetPlace verdict verdictsFrom verdicts candidates skippedOf inUse countedFeed usedDests feederOf readersOf reads hearsAudio isAudio controls audios planOrder slewFor inputBy routeBy routeIn planBy plansOf allRoutes order secondsOf ratePerSample max32 isNan lt eq mul div
 p4 = (refl, refl, refl, refl)
 
 -- cases/08-glide.txt
@@ -155,7 +156,7 @@ p5 : Compiles w5
     1
     (record { slot = 0; source = record { read = D.Held 1 true; bipolar = false; table = false; slew = L.Free }; aux = X.Missing; «aux_invert» = false; bipolar = false; amount = G.Live; output = G.Live; voice = true; scale = (fin false 1 (pos 0)); offset = (fin false 0 (pos 0)); simple = true } ∷ [])
     ([])
-unfolding w5 targetPlace verdict candidatesFrom skippedFrom candidates skippedOf inUse countedFeed feederOf reads hearsAudio isAudio controls audios planOrder planPlace readOf slewFor inputOf routeOf routesInto planOf plansOf allRoutes order secondsOf ratePerSample max32 isNan lt eq mul div
+unfolding w5 targetPlace verdict verdictsFrom verdicts candidates skippedOf inUse countedFeed usedDests feederOf readersOf reads hearsAudio isAudio controls audios planOrder slewFor inputBy routeBy routeIn planBy plansOf allRoutes order secondsOf ratePerSample max32 isNan lt eq mul div
 p5 = (refl, refl, refl, refl)
 
 -- cases/09-bipolar.txt
@@ -171,7 +172,7 @@ p6 : Compiles w6
     1
     (record { slot = 0; source = record { read = D.Held 0 false; bipolar = true; table = false; slew = L.Free }; aux = X.Missing; «aux_invert» = false; bipolar = true; amount = G.Live; output = G.Live; voice = false; scale = (fin false 1 (pos 0)); offset = (fin false 0 (pos 0)); simple = false } ∷ [])
     ([])
-unfolding w6 targetPlace verdict candidatesFrom skippedFrom candidates skippedOf inUse countedFeed feederOf reads hearsAudio isAudio controls audios planOrder planPlace readOf slewFor inputOf routeOf routesInto planOf plansOf allRoutes order secondsOf ratePerSample max32 isNan lt eq mul div
+unfolding w6 targetPlace verdict verdictsFrom verdicts candidates skippedOf inUse countedFeed usedDests feederOf readersOf reads hearsAudio isAudio controls audios planOrder slewFor inputBy routeBy routeIn planBy plansOf allRoutes order secondsOf ratePerSample max32 isNan lt eq mul div
 p6 = (refl, refl, refl, refl)
 
 -- cases/11-clamp.txt
@@ -187,7 +188,7 @@ p7 : Compiles w7
     1
     (record { slot = 0; source = record { read = D.Constant; bipolar = false; table = false; slew = L.Free }; aux = X.Missing; «aux_invert» = false; bipolar = false; amount = G.Live; output = G.Live; voice = false; scale = (fin false 1 (pos 0)); offset = (fin false 0 (pos 0)); simple = false } ∷ [])
     ([])
-unfolding w7 targetPlace verdict candidatesFrom skippedFrom candidates skippedOf inUse countedFeed feederOf reads hearsAudio isAudio controls audios planOrder planPlace readOf slewFor inputOf routeOf routesInto planOf plansOf allRoutes order secondsOf ratePerSample max32 isNan lt eq mul div
+unfolding w7 targetPlace verdict verdictsFrom verdicts candidates skippedOf inUse countedFeed usedDests feederOf readersOf reads hearsAudio isAudio controls audios planOrder slewFor inputBy routeBy routeIn planBy plansOf allRoutes order secondsOf ratePerSample max32 isNan lt eq mul div
 p7 = (refl, refl, refl, refl)
 
 -- cases/diff-1-unread-feeder.txt
@@ -203,7 +204,7 @@ p8 : Compiles w8
     3
     (record { slot = 2; source = record { read = D.Constant; bipolar = false; table = false; slew = L.Free }; aux = X.Missing; «aux_invert» = false; bipolar = false; amount = G.Live; output = G.Live; voice = false; scale = (fin false 1 (pos 0)); offset = (fin false 0 (pos 0)); simple = false } ∷ record { slot = 1; source = record { read = D.Fed 0 false; bipolar = false; table = false; slew = L.Free }; aux = X.Missing; «aux_invert» = false; bipolar = false; amount = G.Live; output = G.Live; voice = false; scale = (fin false 1 (pos 0)); offset = (fin false 0 (pos 0)); simple = false } ∷ record { slot = 0; source = record { read = D.Fed 1 false; bipolar = false; table = false; slew = L.Free }; aux = X.Missing; «aux_invert» = false; bipolar = false; amount = G.Live; output = G.Live; voice = false; scale = (fin false 1 (pos 0)); offset = (fin false 0 (pos 0)); simple = false } ∷ [])
     ([])
-unfolding w8 targetPlace verdict candidatesFrom skippedFrom candidates skippedOf inUse countedFeed feederOf reads hearsAudio isAudio controls audios planOrder planPlace readOf slewFor inputOf routeOf routesInto planOf plansOf allRoutes order secondsOf ratePerSample max32 isNan lt eq mul div
+unfolding w8 targetPlace verdict verdictsFrom verdicts candidates skippedOf inUse countedFeed usedDests feederOf readersOf reads hearsAudio isAudio controls audios planOrder slewFor inputBy routeBy routeIn planBy plansOf allRoutes order secondsOf ratePerSample max32 isNan lt eq mul div
 p8 = (refl, refl, refl, refl)
 
 -- cases/diff-2-global-slew.txt
@@ -219,7 +220,7 @@ p9 : Compiles w9
     2
     (record { slot = 0; source = record { read = D.Held 0 false; bipolar = false; table = true; slew = L.Limit (fin false 1 (negsuc 5)) (inf false) }; aux = X.Missing; «aux_invert» = false; bipolar = false; amount = G.Live; output = G.Live; voice = false; scale = (fin false 1 (pos 0)); offset = (fin false 0 (pos 0)); simple = false } ∷ record { slot = 1; source = record { read = D.Held 1 true; bipolar = false; table = true; slew = L.Limit (fin false 1 (negsuc 5)) (inf false) }; aux = X.Missing; «aux_invert» = false; bipolar = false; amount = G.Live; output = G.Live; voice = true; scale = (fin false 1 (pos 0)); offset = (fin false 0 (pos 0)); simple = false } ∷ [])
     ([])
-unfolding w9 targetPlace verdict candidatesFrom skippedFrom candidates skippedOf inUse countedFeed feederOf reads hearsAudio isAudio controls audios planOrder planPlace readOf slewFor inputOf routeOf routesInto planOf plansOf allRoutes order secondsOf ratePerSample max32 isNan lt eq mul div
+unfolding w9 targetPlace verdict verdictsFrom verdicts candidates skippedOf inUse countedFeed usedDests feederOf readersOf reads hearsAudio isAudio controls audios planOrder slewFor inputBy routeBy routeIn planBy plansOf allRoutes order secondsOf ratePerSample max32 isNan lt eq mul div
 p9 = (refl, refl, refl, refl)
 
 -- cases/diff-3-unprimed-slew.txt
@@ -235,7 +236,7 @@ p10 : Compiles w10
     1
     (record { slot = 0; source = record { read = D.Constant; bipolar = false; table = true; slew = L.Limit (fin false 1 (negsuc 5)) (inf false) }; aux = X.Missing; «aux_invert» = false; bipolar = false; amount = G.Live; output = G.Live; voice = false; scale = (fin false 1 (pos 0)); offset = (fin false 0 (pos 0)); simple = false } ∷ [])
     ([])
-unfolding w10 targetPlace verdict candidatesFrom skippedFrom candidates skippedOf inUse countedFeed feederOf reads hearsAudio isAudio controls audios planOrder planPlace readOf slewFor inputOf routeOf routesInto planOf plansOf allRoutes order secondsOf ratePerSample max32 isNan lt eq mul div
+unfolding w10 targetPlace verdict verdictsFrom verdicts candidates skippedOf inUse countedFeed usedDests feederOf readersOf reads hearsAudio isAudio controls audios planOrder slewFor inputBy routeBy routeIn planBy plansOf allRoutes order secondsOf ratePerSample max32 isNan lt eq mul div
 p10 = (refl, refl, refl, refl)
 
 -- cases/diff-4-groups.txt
@@ -251,7 +252,7 @@ p11 : Compiles w11
     1
     (record { slot = 0; source = record { read = D.Held 0 true; bipolar = false; table = false; slew = L.Free }; aux = X.Missing; «aux_invert» = false; bipolar = false; amount = G.Live; output = G.Live; voice = true; scale = (fin false 1 (pos 0)); offset = (fin false 0 (pos 0)); simple = true } ∷ record { slot = 1; source = record { read = D.Constant; bipolar = false; table = false; slew = L.Free }; aux = X.Missing; «aux_invert» = false; bipolar = false; amount = G.Live; output = G.Live; voice = false; scale = (fin false 1 (pos 0)); offset = (fin false 0 (pos 0)); simple = false } ∷ [])
     ([])
-unfolding w11 targetPlace verdict candidatesFrom skippedFrom candidates skippedOf inUse countedFeed feederOf reads hearsAudio isAudio controls audios planOrder planPlace readOf slewFor inputOf routeOf routesInto planOf plansOf allRoutes order secondsOf ratePerSample max32 isNan lt eq mul div
+unfolding w11 targetPlace verdict verdictsFrom verdicts candidates skippedOf inUse countedFeed usedDests feederOf readersOf reads hearsAudio isAudio controls audios planOrder slewFor inputBy routeBy routeIn planBy plansOf allRoutes order secondsOf ratePerSample max32 isNan lt eq mul div
 p11 = (refl, refl, refl, refl)
 
 -- cases/diff-5-no-voice.txt
@@ -267,7 +268,7 @@ p12 : Compiles w12
     0
     (record { slot = 0; source = record { read = D.Held 0 true; bipolar = false; table = false; slew = L.Free }; aux = X.Missing; «aux_invert» = false; bipolar = false; amount = G.Live; output = G.Live; voice = true; scale = (fin false 1 (pos 0)); offset = (fin false 0 (pos 0)); simple = true } ∷ [])
     ([])
-unfolding w12 targetPlace verdict candidatesFrom skippedFrom candidates skippedOf inUse countedFeed feederOf reads hearsAudio isAudio controls audios planOrder planPlace readOf slewFor inputOf routeOf routesInto planOf plansOf allRoutes order secondsOf ratePerSample max32 isNan lt eq mul div
+unfolding w12 targetPlace verdict verdictsFrom verdicts candidates skippedOf inUse countedFeed usedDests feederOf readersOf reads hearsAudio isAudio controls audios planOrder slewFor inputBy routeBy routeIn planBy plansOf allRoutes order secondsOf ratePerSample max32 isNan lt eq mul div
 p12 = (refl, refl, refl, refl)
 
 -- cases/diff-6-constant-scope.txt
@@ -283,7 +284,7 @@ p13 : Compiles w13
     1
     (record { slot = 0; source = record { read = D.Constant; bipolar = false; table = false; slew = L.Free }; aux = X.Missing; «aux_invert» = false; bipolar = false; amount = G.Live; output = G.Live; voice = false; scale = (fin false 1 (pos 0)); offset = (fin false 0 (pos 0)); simple = false } ∷ [])
     ([])
-unfolding w13 targetPlace verdict candidatesFrom skippedFrom candidates skippedOf inUse countedFeed feederOf reads hearsAudio isAudio controls audios planOrder planPlace readOf slewFor inputOf routeOf routesInto planOf plansOf allRoutes order secondsOf ratePerSample max32 isNan lt eq mul div
+unfolding w13 targetPlace verdict verdictsFrom verdicts candidates skippedOf inUse countedFeed usedDests feederOf readersOf reads hearsAudio isAudio controls audios planOrder slewFor inputBy routeBy routeIn planBy plansOf allRoutes order secondsOf ratePerSample max32 isNan lt eq mul div
 p13 = (refl, refl, refl, refl)
 
 -- cases/diff-7-nan-slew.txt
@@ -299,7 +300,7 @@ p14 : Compiles w14
     1
     (record { slot = 0; source = record { read = D.Signal 0 true; bipolar = false; table = true; slew = L.Limit (fin false 1 (negsuc 5)) (fin false 1 (negsuc 5)) }; aux = X.Missing; «aux_invert» = false; bipolar = false; amount = G.Live; output = G.Live; voice = true; scale = (fin false 1 (pos 0)); offset = (fin false 0 (pos 0)); simple = false } ∷ [])
     ([])
-unfolding w14 targetPlace verdict candidatesFrom skippedFrom candidates skippedOf inUse countedFeed feederOf reads hearsAudio isAudio controls audios planOrder planPlace readOf slewFor inputOf routeOf routesInto planOf plansOf allRoutes order secondsOf ratePerSample max32 isNan lt eq mul div
+unfolding w14 targetPlace verdict verdictsFrom verdicts candidates skippedOf inUse countedFeed usedDests feederOf readersOf reads hearsAudio isAudio controls audios planOrder slewFor inputBy routeBy routeIn planBy plansOf allRoutes order secondsOf ratePerSample max32 isNan lt eq mul div
 p14 = (refl, refl, refl, refl)
 
 -- cases/diff-8-set-held.txt
@@ -315,7 +316,7 @@ p15 : Compiles w15
     1
     (record { slot = 0; source = record { read = D.Held 0 true; bipolar = false; table = false; slew = L.Free }; aux = X.Missing; «aux_invert» = false; bipolar = false; amount = G.Live; output = G.Live; voice = true; scale = (fin false 1 (pos 0)); offset = (fin false 0 (pos 0)); simple = true } ∷ [])
     ([])
-unfolding w15 targetPlace verdict candidatesFrom skippedFrom candidates skippedOf inUse countedFeed feederOf reads hearsAudio isAudio controls audios planOrder planPlace readOf slewFor inputOf routeOf routesInto planOf plansOf allRoutes order secondsOf ratePerSample max32 isNan lt eq mul div
+unfolding w15 targetPlace verdict verdictsFrom verdicts candidates skippedOf inUse countedFeed usedDests feederOf readersOf reads hearsAudio isAudio controls audios planOrder slewFor inputBy routeBy routeIn planBy plansOf allRoutes order secondsOf ratePerSample max32 isNan lt eq mul div
 p15 = (refl, refl, refl, refl)
 
 -- cases/panic-rows-1-8.txt
@@ -331,7 +332,7 @@ p16 : Compiles w16
     1
     (record { slot = 0; source = record { read = D.Held 0 false; bipolar = false; table = false; slew = L.Free }; aux = X.Missing; «aux_invert» = false; bipolar = false; amount = G.Live; output = G.Live; voice = false; scale = (fin false 1 (pos 0)); offset = (fin false 0 (pos 0)); simple = false } ∷ [])
     ([])
-unfolding w16 targetPlace verdict candidatesFrom skippedFrom candidates skippedOf inUse countedFeed feederOf reads hearsAudio isAudio controls audios planOrder planPlace readOf slewFor inputOf routeOf routesInto planOf plansOf allRoutes order secondsOf ratePerSample max32 isNan lt eq mul div
+unfolding w16 targetPlace verdict verdictsFrom verdicts candidates skippedOf inUse countedFeed usedDests feederOf readersOf reads hearsAudio isAudio controls audios planOrder slewFor inputBy routeBy routeIn planBy plansOf allRoutes order secondsOf ratePerSample max32 isNan lt eq mul div
 p16 = (refl, refl, refl, refl)
 
 -- cases/panic-rows-1-8.txt
@@ -347,7 +348,7 @@ p17 : Compiles w17
     1
     (record { slot = 0; source = record { read = D.Held 1 false; bipolar = false; table = false; slew = L.Free }; aux = X.Missing; «aux_invert» = false; bipolar = false; amount = G.Live; output = G.Live; voice = false; scale = (fin false 1 (pos 0)); offset = (fin false 0 (pos 0)); simple = false } ∷ [])
     ([])
-unfolding w17 targetPlace verdict candidatesFrom skippedFrom candidates skippedOf inUse countedFeed feederOf reads hearsAudio isAudio controls audios planOrder planPlace readOf slewFor inputOf routeOf routesInto planOf plansOf allRoutes order secondsOf ratePerSample max32 isNan lt eq mul div
+unfolding w17 targetPlace verdict verdictsFrom verdicts candidates skippedOf inUse countedFeed usedDests feederOf readersOf reads hearsAudio isAudio controls audios planOrder slewFor inputBy routeBy routeIn planBy plansOf allRoutes order secondsOf ratePerSample max32 isNan lt eq mul div
 p17 = (refl, refl, refl, refl)
 
 -- cases/t03-gain-overflow.txt
@@ -363,7 +364,7 @@ p18 : Compiles w18
     2
     (record { slot = 0; source = record { read = D.Held 0 true; bipolar = false; table = false; slew = L.Free }; aux = X.Missing; «aux_invert» = false; bipolar = false; amount = G.Live; output = G.Live; voice = true; scale = (fin false 1 (pos 0)); offset = (fin false 0 (pos 0)); simple = true } ∷ record { slot = 1; source = record { read = D.Held 0 true; bipolar = false; table = false; slew = L.Free }; aux = X.With (record { read = D.Constant; bipolar = false; table = false; slew = L.Free }); «aux_invert» = false; bipolar = false; amount = G.Live; output = G.Live; voice = true; scale = (fin false 1 (pos 0)); offset = (fin false 0 (pos 0)); simple = false } ∷ [])
     ([])
-unfolding w18 targetPlace verdict candidatesFrom skippedFrom candidates skippedOf inUse countedFeed feederOf reads hearsAudio isAudio controls audios planOrder planPlace readOf slewFor inputOf routeOf routesInto planOf plansOf allRoutes order secondsOf ratePerSample max32 isNan lt eq mul div
+unfolding w18 targetPlace verdict verdictsFrom verdicts candidates skippedOf inUse countedFeed usedDests feederOf readersOf reads hearsAudio isAudio controls audios planOrder slewFor inputBy routeBy routeIn planBy plansOf allRoutes order secondsOf ratePerSample max32 isNan lt eq mul div
 p18 = (refl, refl, refl, refl)
 
 -- cases/t04-newest-group-slews.txt
@@ -379,7 +380,7 @@ p19 : Compiles w19
     1
     (record { slot = 0; source = record { read = D.Held 0 true; bipolar = false; table = true; slew = L.Limit (fin false 1 (negsuc 7)) (fin false 1 (negsuc 7)) }; aux = X.Missing; «aux_invert» = false; bipolar = false; amount = G.Live; output = G.Live; voice = true; scale = (fin false 1 (pos 0)); offset = (fin false 0 (pos 0)); simple = false } ∷ [])
     ([])
-unfolding w19 targetPlace verdict candidatesFrom skippedFrom candidates skippedOf inUse countedFeed feederOf reads hearsAudio isAudio controls audios planOrder planPlace readOf slewFor inputOf routeOf routesInto planOf plansOf allRoutes order secondsOf ratePerSample max32 isNan lt eq mul div
+unfolding w19 targetPlace verdict verdictsFrom verdicts candidates skippedOf inUse countedFeed usedDests feederOf readersOf reads hearsAudio isAudio controls audios planOrder slewFor inputBy routeBy routeIn planBy plansOf allRoutes order secondsOf ratePerSample max32 isNan lt eq mul div
 p19 = (refl, refl, refl, refl)
 
 -- cases/t05-slew-rounding.txt
@@ -395,7 +396,7 @@ p20 : Compiles w20
     1
     (record { slot = 0; source = record { read = D.Held 0 true; bipolar = false; table = true; slew = L.Limit (fin false 16383999 (negsuc 19)) (inf false) }; aux = X.Missing; «aux_invert» = false; bipolar = false; amount = G.Live; output = G.Live; voice = true; scale = (fin false 1 (pos 0)); offset = (fin false 0 (pos 0)); simple = false } ∷ [])
     ([])
-unfolding w20 targetPlace verdict candidatesFrom skippedFrom candidates skippedOf inUse countedFeed feederOf reads hearsAudio isAudio controls audios planOrder planPlace readOf slewFor inputOf routeOf routesInto planOf plansOf allRoutes order secondsOf ratePerSample max32 isNan lt eq mul div
+unfolding w20 targetPlace verdict verdictsFrom verdicts candidates skippedOf inUse countedFeed usedDests feederOf readersOf reads hearsAudio isAudio controls audios planOrder slewFor inputBy routeBy routeIn planBy plansOf allRoutes order secondsOf ratePerSample max32 isNan lt eq mul div
 p20 = (refl, refl, refl, refl)
 
 -- cases/t06-glide-step-zero.txt
@@ -411,7 +412,7 @@ p21 : Compiles w21
     1
     (record { slot = 0; source = record { read = D.Held 1 true; bipolar = false; table = false; slew = L.Free }; aux = X.Missing; «aux_invert» = false; bipolar = false; amount = G.Live; output = G.Live; voice = true; scale = (fin false 1 (pos 0)); offset = (fin false 0 (pos 0)); simple = true } ∷ [])
     ([])
-unfolding w21 targetPlace verdict candidatesFrom skippedFrom candidates skippedOf inUse countedFeed feederOf reads hearsAudio isAudio controls audios planOrder planPlace readOf slewFor inputOf routeOf routesInto planOf plansOf allRoutes order secondsOf ratePerSample max32 isNan lt eq mul div
+unfolding w21 targetPlace verdict verdictsFrom verdicts candidates skippedOf inUse countedFeed usedDests feederOf readersOf reads hearsAudio isAudio controls audios planOrder slewFor inputBy routeBy routeIn planBy plansOf allRoutes order secondsOf ratePerSample max32 isNan lt eq mul div
 p21 = (refl, refl, refl, refl)
 
 -- cases/t07-other-registry.txt
@@ -427,7 +428,7 @@ p22 : Compiles w22
     1
     (record { slot = 0; source = record { read = D.Held 0 false; bipolar = false; table = false; slew = L.Free }; aux = X.Missing; «aux_invert» = false; bipolar = false; amount = G.Live; output = G.Live; voice = false; scale = (fin false 1 (pos 0)); offset = (fin false 0 (pos 0)); simple = false } ∷ [])
     ([])
-unfolding w22 targetPlace verdict candidatesFrom skippedFrom candidates skippedOf inUse countedFeed feederOf reads hearsAudio isAudio controls audios planOrder planPlace readOf slewFor inputOf routeOf routesInto planOf plansOf allRoutes order secondsOf ratePerSample max32 isNan lt eq mul div
+unfolding w22 targetPlace verdict verdictsFrom verdicts candidates skippedOf inUse countedFeed usedDests feederOf readersOf reads hearsAudio isAudio controls audios planOrder slewFor inputBy routeBy routeIn planBy plansOf allRoutes order secondsOf ratePerSample max32 isNan lt eq mul div
 p22 = (refl, refl, refl, refl)
 
 -- cases/t09-plain-by-chunk.txt
@@ -443,7 +444,7 @@ p23 : Compiles w23
     0
     (record { slot = 0; source = record { read = D.Signal 0 true; bipolar = false; table = false; slew = L.Free }; aux = X.Missing; «aux_invert» = false; bipolar = false; amount = G.Live; output = G.Live; voice = true; scale = (fin false 1 (pos 0)); offset = (fin false 0 (pos 0)); simple = true } ∷ [])
     ([])
-unfolding w23 targetPlace verdict candidatesFrom skippedFrom candidates skippedOf inUse countedFeed feederOf reads hearsAudio isAudio controls audios planOrder planPlace readOf slewFor inputOf routeOf routesInto planOf plansOf allRoutes order secondsOf ratePerSample max32 isNan lt eq mul div
+unfolding w23 targetPlace verdict verdictsFrom verdicts candidates skippedOf inUse countedFeed usedDests feederOf readersOf reads hearsAudio isAudio controls audios planOrder slewFor inputBy routeBy routeIn planBy plansOf allRoutes order secondsOf ratePerSample max32 isNan lt eq mul div
 p23 = (refl, refl, refl, refl)
 
 -- cases/t10-draw-order.txt
@@ -459,7 +460,7 @@ p24 : Compiles w24
     2
     (record { slot = 1; source = record { read = D.RouteRandom; bipolar = false; table = false; slew = L.Free }; aux = X.Missing; «aux_invert» = false; bipolar = false; amount = G.Live; output = G.Live; voice = true; scale = (fin false 1 (pos 0)); offset = (fin false 0 (pos 0)); simple = true } ∷ record { slot = 0; source = record { read = D.RouteRandom; bipolar = false; table = false; slew = L.Free }; aux = X.Missing; «aux_invert» = false; bipolar = false; amount = G.Live; output = G.Live; voice = true; scale = (fin false 1 (pos 0)); offset = (fin false 0 (pos 0)); simple = true } ∷ [])
     ([])
-unfolding w24 targetPlace verdict candidatesFrom skippedFrom candidates skippedOf inUse countedFeed feederOf reads hearsAudio isAudio controls audios planOrder planPlace readOf slewFor inputOf routeOf routesInto planOf plansOf allRoutes order secondsOf ratePerSample max32 isNan lt eq mul div
+unfolding w24 targetPlace verdict verdictsFrom verdicts candidates skippedOf inUse countedFeed usedDests feederOf readersOf reads hearsAudio isAudio controls audios planOrder slewFor inputBy routeBy routeIn planBy plansOf allRoutes order secondsOf ratePerSample max32 isNan lt eq mul div
 p24 = (refl, refl, refl, refl)
 
 -- cases/t11-held-apart-from-note-value.txt
@@ -475,7 +476,7 @@ p25 : Compiles w25
     1
     (record { slot = 0; source = record { read = D.Held 0 true; bipolar = false; table = false; slew = L.Free }; aux = X.Missing; «aux_invert» = false; bipolar = false; amount = G.Live; output = G.Live; voice = true; scale = (fin false 1 (pos 0)); offset = (fin false 0 (pos 0)); simple = true } ∷ [])
     ([])
-unfolding w25 targetPlace verdict candidatesFrom skippedFrom candidates skippedOf inUse countedFeed feederOf reads hearsAudio isAudio controls audios planOrder planPlace readOf slewFor inputOf routeOf routesInto planOf plansOf allRoutes order secondsOf ratePerSample max32 isNan lt eq mul div
+unfolding w25 targetPlace verdict verdictsFrom verdicts candidates skippedOf inUse countedFeed usedDests feederOf readersOf reads hearsAudio isAudio controls audios planOrder slewFor inputBy routeBy routeIn planBy plansOf allRoutes order secondsOf ratePerSample max32 isNan lt eq mul div
 p25 = (refl, refl, refl, refl)
 
 -- cases/t13-global-slew-no-voice.txt
@@ -491,7 +492,7 @@ p26 : Compiles w26
     1
     (record { slot = 0; source = record { read = D.Held 0 false; bipolar = false; table = true; slew = L.Limit (fin false 1 (negsuc 5)) (fin false 1 (negsuc 5)) }; aux = X.Missing; «aux_invert» = false; bipolar = false; amount = G.Live; output = G.Live; voice = false; scale = (fin false 1 (pos 0)); offset = (fin false 0 (pos 0)); simple = false } ∷ [])
     ([])
-unfolding w26 targetPlace verdict candidatesFrom skippedFrom candidates skippedOf inUse countedFeed feederOf reads hearsAudio isAudio controls audios planOrder planPlace readOf slewFor inputOf routeOf routesInto planOf plansOf allRoutes order secondsOf ratePerSample max32 isNan lt eq mul div
+unfolding w26 targetPlace verdict verdictsFrom verdicts candidates skippedOf inUse countedFeed usedDests feederOf readersOf reads hearsAudio isAudio controls audios planOrder slewFor inputBy routeBy routeIn planBy plansOf allRoutes order secondsOf ratePerSample max32 isNan lt eq mul div
 p26 = (refl, refl, refl, refl)
 
 -- cases/t14-lower-self-feeder.txt
@@ -507,7 +508,7 @@ p27 : Compiles w27
     2
     (record { slot = 1; source = record { read = D.Constant; bipolar = false; table = false; slew = L.Free }; aux = X.Missing; «aux_invert» = false; bipolar = false; amount = G.Live; output = G.Live; voice = false; scale = (fin false 1 (pos 0)); offset = (fin false 0 (pos 0)); simple = false } ∷ record { slot = 0; source = record { read = D.Fed 0 false; bipolar = false; table = false; slew = L.Free }; aux = X.Missing; «aux_invert» = false; bipolar = false; amount = G.Live; output = G.Live; voice = false; scale = (fin false 1 (pos 0)); offset = (fin false 0 (pos 0)); simple = false } ∷ [])
     ([])
-unfolding w27 targetPlace verdict candidatesFrom skippedFrom candidates skippedOf inUse countedFeed feederOf reads hearsAudio isAudio controls audios planOrder planPlace readOf slewFor inputOf routeOf routesInto planOf plansOf allRoutes order secondsOf ratePerSample max32 isNan lt eq mul div
+unfolding w27 targetPlace verdict verdictsFrom verdicts candidates skippedOf inUse countedFeed usedDests feederOf readersOf reads hearsAudio isAudio controls audios planOrder slewFor inputBy routeBy routeIn planBy plansOf allRoutes order secondsOf ratePerSample max32 isNan lt eq mul div
 p27 = (refl, refl, refl, refl)
 
 -- cases/t15-self-feed-reinstalled.txt
@@ -523,7 +524,7 @@ p28 : Compiles w28
     1
     (record { slot = 0; source = record { read = D.Fed 0 false; bipolar = false; table = false; slew = L.Free }; aux = X.Missing; «aux_invert» = false; bipolar = false; amount = G.Live; output = G.Live; voice = false; scale = (fin false 1 (pos 0)); offset = (fin false 0 (pos 0)); simple = false } ∷ record { slot = 1; source = record { read = D.Constant; bipolar = false; table = false; slew = L.Free }; aux = X.Missing; «aux_invert» = false; bipolar = false; amount = G.Live; output = G.Live; voice = false; scale = (fin false 1 (pos 0)); offset = (fin false 0 (pos 0)); simple = false } ∷ [])
     ([])
-unfolding w28 targetPlace verdict candidatesFrom skippedFrom candidates skippedOf inUse countedFeed feederOf reads hearsAudio isAudio controls audios planOrder planPlace readOf slewFor inputOf routeOf routesInto planOf plansOf allRoutes order secondsOf ratePerSample max32 isNan lt eq mul div
+unfolding w28 targetPlace verdict verdictsFrom verdicts candidates skippedOf inUse countedFeed usedDests feederOf readersOf reads hearsAudio isAudio controls audios planOrder slewFor inputBy routeBy routeIn planBy plansOf allRoutes order secondsOf ratePerSample max32 isNan lt eq mul div
 p28 = (refl, refl, refl, refl)
 
 -- cases/t16-load-no-routes.txt
@@ -539,7 +540,7 @@ p29 : Compiles w29
     1
     (record { slot = 0; source = record { read = D.Held 0 false; bipolar = false; table = false; slew = L.Free }; aux = X.Missing; «aux_invert» = false; bipolar = false; amount = G.Live; output = G.Live; voice = false; scale = (fin false 1 (pos 0)); offset = (fin false 0 (pos 0)); simple = false } ∷ [])
     ([])
-unfolding w29 targetPlace verdict candidatesFrom skippedFrom candidates skippedOf inUse countedFeed feederOf reads hearsAudio isAudio controls audios planOrder planPlace readOf slewFor inputOf routeOf routesInto planOf plansOf allRoutes order secondsOf ratePerSample max32 isNan lt eq mul div
+unfolding w29 targetPlace verdict verdictsFrom verdicts candidates skippedOf inUse countedFeed usedDests feederOf readersOf reads hearsAudio isAudio controls audios planOrder slewFor inputBy routeBy routeIn planBy plansOf allRoutes order secondsOf ratePerSample max32 isNan lt eq mul div
 p29 = (refl, refl, refl, refl)
 
 -- cases/t17-global-input-voice-route-snaps.txt
@@ -555,7 +556,7 @@ p30 : Compiles w30
     1
     (record { slot = 0; source = record { read = D.Held 0 false; bipolar = false; table = true; slew = L.Limit (fin false 1 (negsuc 5)) (fin false 1 (negsuc 5)) }; aux = X.With (record { read = D.Held 1 true; bipolar = false; table = false; slew = L.Free }); «aux_invert» = false; bipolar = false; amount = G.Live; output = G.Live; voice = true; scale = (fin false 1 (pos 0)); offset = (fin false 0 (pos 0)); simple = false } ∷ [])
     ([])
-unfolding w30 targetPlace verdict candidatesFrom skippedFrom candidates skippedOf inUse countedFeed feederOf reads hearsAudio isAudio controls audios planOrder planPlace readOf slewFor inputOf routeOf routesInto planOf plansOf allRoutes order secondsOf ratePerSample max32 isNan lt eq mul div
+unfolding w30 targetPlace verdict verdictsFrom verdicts candidates skippedOf inUse countedFeed usedDests feederOf readersOf reads hearsAudio isAudio controls audios planOrder slewFor inputBy routeBy routeIn planBy plansOf allRoutes order secondsOf ratePerSample max32 isNan lt eq mul div
 p30 = (refl, refl, refl, refl)
 
 -- cases/t18-group-lane-reads-own-feeder.txt
@@ -571,7 +572,7 @@ p31 : Compiles w31
     2
     (record { slot = 1; source = record { read = D.Held 1 true; bipolar = false; table = false; slew = L.Free }; aux = X.Missing; «aux_invert» = false; bipolar = false; amount = G.Live; output = G.Live; voice = true; scale = (fin false 1 (pos 0)); offset = (fin false 0 (pos 0)); simple = true } ∷ record { slot = 0; source = record { read = D.Fed 0 true; bipolar = false; table = true; slew = L.Limit (fin false 1 (negsuc 7)) (fin false 1 (negsuc 7)) }; aux = X.Missing; «aux_invert» = false; bipolar = false; amount = G.Live; output = G.Live; voice = true; scale = (fin false 1 (pos 0)); offset = (fin false 0 (pos 0)); simple = false } ∷ [])
     ([])
-unfolding w31 targetPlace verdict candidatesFrom skippedFrom candidates skippedOf inUse countedFeed feederOf reads hearsAudio isAudio controls audios planOrder planPlace readOf slewFor inputOf routeOf routesInto planOf plansOf allRoutes order secondsOf ratePerSample max32 isNan lt eq mul div
+unfolding w31 targetPlace verdict verdictsFrom verdicts candidates skippedOf inUse countedFeed usedDests feederOf readersOf reads hearsAudio isAudio controls audios planOrder slewFor inputBy routeBy routeIn planBy plansOf allRoutes order secondsOf ratePerSample max32 isNan lt eq mul div
 p31 = (refl, refl, refl, refl)
 
 -- cases/t20-audio-nan-bounds.txt
@@ -587,7 +588,7 @@ p32 : Compiles w32
     1
     (record { slot = 2; source = record { read = D.Signal 0 false; bipolar = false; table = false; slew = L.Free }; aux = X.Missing; «aux_invert» = false; bipolar = false; amount = G.Live; output = G.Live; voice = false; scale = (fin false 1 (pos 0)); offset = (fin false 0 (pos 0)); simple = false } ∷ record { slot = 0; source = record { read = D.Signal 0 false; bipolar = false; table = false; slew = L.Free }; aux = X.Missing; «aux_invert» = false; bipolar = false; amount = G.Live; output = G.Live; voice = false; scale = (fin false 1 (pos 0)); offset = (fin false 0 (pos 0)); simple = false } ∷ record { slot = 1; source = record { read = D.Signal 0 false; bipolar = false; table = false; slew = L.Free }; aux = X.Missing; «aux_invert» = false; bipolar = false; amount = G.Live; output = G.Live; voice = false; scale = (fin false 1 (pos 0)); offset = (fin false 0 (pos 0)); simple = false } ∷ [])
     ([])
-unfolding w32 targetPlace verdict candidatesFrom skippedFrom candidates skippedOf inUse countedFeed feederOf reads hearsAudio isAudio controls audios planOrder planPlace readOf slewFor inputOf routeOf routesInto planOf plansOf allRoutes order secondsOf ratePerSample max32 isNan lt eq mul div
+unfolding w32 targetPlace verdict verdictsFrom verdicts candidates skippedOf inUse countedFeed usedDests feederOf readersOf reads hearsAudio isAudio controls audios planOrder slewFor inputBy routeBy routeIn planBy plansOf allRoutes order secondsOf ratePerSample max32 isNan lt eq mul div
 p32 = (refl, refl, refl, refl)
 
 -- cases/t21-same-counts-by-dest-feed-not-counted.txt
@@ -603,7 +604,7 @@ p33 : Compiles w33
     0
     (record { slot = 0; source = record { read = D.Constant; bipolar = false; table = false; slew = L.Free }; aux = X.Missing; «aux_invert» = false; bipolar = false; amount = G.Live; output = G.Live; voice = false; scale = (fin false 1 (pos 0)); offset = (fin false 0 (pos 0)); simple = false } ∷ record { slot = 1; source = record { read = D.Constant; bipolar = false; table = false; slew = L.Free }; aux = X.Missing; «aux_invert» = false; bipolar = false; amount = G.Live; output = G.Live; voice = false; scale = (fin false 1 (pos 0)); offset = (fin false 0 (pos 0)); simple = false } ∷ record { slot = 2; source = record { read = D.Constant; bipolar = false; table = false; slew = L.Free }; aux = X.Missing; «aux_invert» = false; bipolar = false; amount = G.Live; output = G.Live; voice = false; scale = (fin false 1 (pos 0)); offset = (fin false 0 (pos 0)); simple = false } ∷ [])
     ([])
-unfolding w33 targetPlace verdict candidatesFrom skippedFrom candidates skippedOf inUse countedFeed feederOf reads hearsAudio isAudio controls audios planOrder planPlace readOf slewFor inputOf routeOf routesInto planOf plansOf allRoutes order secondsOf ratePerSample max32 isNan lt eq mul div
+unfolding w33 targetPlace verdict verdictsFrom verdicts candidates skippedOf inUse countedFeed usedDests feederOf readersOf reads hearsAudio isAudio controls audios planOrder slewFor inputBy routeBy routeIn planBy plansOf allRoutes order secondsOf ratePerSample max32 isNan lt eq mul div
 p33 = (refl, refl, refl, refl)
 
 -- cases/t22-legato-renote-no-fresh.txt
@@ -619,7 +620,7 @@ p34 : Compiles w34
     1
     (record { slot = 0; source = record { read = D.RouteRandom; bipolar = false; table = false; slew = L.Free }; aux = X.Missing; «aux_invert» = false; bipolar = false; amount = G.Live; output = G.Live; voice = true; scale = (fin false 1 (pos 0)); offset = (fin false 0 (pos 0)); simple = true } ∷ [])
     ([])
-unfolding w34 targetPlace verdict candidatesFrom skippedFrom candidates skippedOf inUse countedFeed feederOf reads hearsAudio isAudio controls audios planOrder planPlace readOf slewFor inputOf routeOf routesInto planOf plansOf allRoutes order secondsOf ratePerSample max32 isNan lt eq mul div
+unfolding w34 targetPlace verdict verdictsFrom verdicts candidates skippedOf inUse countedFeed usedDests feederOf readersOf reads hearsAudio isAudio controls audios planOrder slewFor inputBy routeBy routeIn planBy plansOf allRoutes order secondsOf ratePerSample max32 isNan lt eq mul div
 p34 = (refl, refl, refl, refl)
 
 -- cases/t23-nan-slew-order.txt
@@ -635,7 +636,7 @@ p35 : Compiles w35
     1
     (record { slot = 0; source = record { read = D.Held 0 false; bipolar = false; table = true; slew = L.Limit (fin false 1 (negsuc 5)) (fin false 1 (negsuc 5)) }; aux = X.Missing; «aux_invert» = false; bipolar = false; amount = G.Live; output = G.Live; voice = false; scale = (fin false 1 (pos 0)); offset = (fin false 0 (pos 0)); simple = false } ∷ [])
     ([])
-unfolding w35 targetPlace verdict candidatesFrom skippedFrom candidates skippedOf inUse countedFeed feederOf reads hearsAudio isAudio controls audios planOrder planPlace readOf slewFor inputOf routeOf routesInto planOf plansOf allRoutes order secondsOf ratePerSample max32 isNan lt eq mul div
+unfolding w35 targetPlace verdict verdictsFrom verdicts candidates skippedOf inUse countedFeed usedDests feederOf readersOf reads hearsAudio isAudio controls audios planOrder slewFor inputBy routeBy routeIn planBy plansOf allRoutes order secondsOf ratePerSample max32 isNan lt eq mul div
 p35 = (refl, refl, refl, refl)
 
 -- cases/t24-routeless-glide.txt
@@ -651,7 +652,7 @@ p36 : Compiles w36
     0
     ([])
     ([])
-unfolding w36 targetPlace verdict candidatesFrom skippedFrom candidates skippedOf inUse countedFeed feederOf reads hearsAudio isAudio controls audios planOrder planPlace readOf slewFor inputOf routeOf routesInto planOf plansOf allRoutes order secondsOf ratePerSample max32 isNan lt eq mul div
+unfolding w36 targetPlace verdict verdictsFrom verdicts candidates skippedOf inUse countedFeed usedDests feederOf readersOf reads hearsAudio isAudio controls audios planOrder slewFor inputBy routeBy routeIn planBy plansOf allRoutes order secondsOf ratePerSample max32 isNan lt eq mul div
 p36 = (refl, refl, refl, refl)
 
 -- cases/t24-routeless-glide.txt
@@ -667,7 +668,7 @@ p37 : Compiles w37
     1
     (record { slot = 0; source = record { read = D.Held 0 true; bipolar = false; table = false; slew = L.Free }; aux = X.Missing; «aux_invert» = false; bipolar = false; amount = G.Live; output = G.Live; voice = true; scale = (fin false 1 (pos 0)); offset = (fin false 0 (pos 0)); simple = true } ∷ [])
     ([])
-unfolding w37 targetPlace verdict candidatesFrom skippedFrom candidates skippedOf inUse countedFeed feederOf reads hearsAudio isAudio controls audios planOrder planPlace readOf slewFor inputOf routeOf routesInto planOf plansOf allRoutes order secondsOf ratePerSample max32 isNan lt eq mul div
+unfolding w37 targetPlace verdict verdictsFrom verdicts candidates skippedOf inUse countedFeed usedDests feederOf readersOf reads hearsAudio isAudio controls audios planOrder slewFor inputBy routeBy routeIn planBy plansOf allRoutes order secondsOf ratePerSample max32 isNan lt eq mul div
 p37 = (refl, refl, refl, refl)
 
 -- cases/t25-engine-global-program-voice.txt
@@ -683,7 +684,7 @@ p38 : Compiles w38
     1
     (record { slot = 0; source = record { read = D.Held 0 true; bipolar = false; table = false; slew = L.Free }; aux = X.Missing; «aux_invert» = false; bipolar = false; amount = G.Live; output = G.Live; voice = true; scale = (fin false 1 (pos 0)); offset = (fin false 0 (pos 0)); simple = true } ∷ [])
     ([])
-unfolding w38 targetPlace verdict candidatesFrom skippedFrom candidates skippedOf inUse countedFeed feederOf reads hearsAudio isAudio controls audios planOrder planPlace readOf slewFor inputOf routeOf routesInto planOf plansOf allRoutes order secondsOf ratePerSample max32 isNan lt eq mul div
+unfolding w38 targetPlace verdict verdictsFrom verdicts candidates skippedOf inUse countedFeed usedDests feederOf readersOf reads hearsAudio isAudio controls audios planOrder slewFor inputBy routeBy routeIn planBy plansOf allRoutes order secondsOf ratePerSample max32 isNan lt eq mul div
 p38 = (refl, refl, refl, refl)
 
 -- cases/t27-signal-of-no-source.txt
@@ -699,7 +700,7 @@ p39 : Compiles w39
     1
     (record { slot = 0; source = record { read = D.Signal 0 false; bipolar = false; table = false; slew = L.Free }; aux = X.Missing; «aux_invert» = false; bipolar = false; amount = G.Live; output = G.Live; voice = false; scale = (fin false 1 (pos 0)); offset = (fin false 0 (pos 0)); simple = false } ∷ record { slot = 1; source = record { read = D.Signal 1 true; bipolar = true; table = false; slew = L.Free }; aux = X.Missing; «aux_invert» = false; bipolar = false; amount = G.Live; output = G.Live; voice = true; scale = (fin false 1 (negsuc 0)); offset = (fin false 1 (negsuc 0)); simple = true } ∷ [])
     (record { slot = 2; reason = E.UnknownSource } ∷ [])
-unfolding w39 targetPlace verdict candidatesFrom skippedFrom candidates skippedOf inUse countedFeed feederOf reads hearsAudio isAudio controls audios planOrder planPlace readOf slewFor inputOf routeOf routesInto planOf plansOf allRoutes order secondsOf ratePerSample max32 isNan lt eq mul div
+unfolding w39 targetPlace verdict verdictsFrom verdicts candidates skippedOf inUse countedFeed usedDests feederOf readersOf reads hearsAudio isAudio controls audios planOrder slewFor inputBy routeBy routeIn planBy plansOf allRoutes order secondsOf ratePerSample max32 isNan lt eq mul div
 p39 = (refl, refl, refl, refl)
 
 -- gen.py 1
@@ -715,7 +716,7 @@ p40 : Compiles w40
     2
     (record { slot = 2; source = record { read = D.Held 59 true; bipolar = false; table = true; slew = L.Free }; aux = X.Missing; «aux_invert» = false; bipolar = true; amount = G.Live; output = G.Live; voice = true; scale = (fin false 1 (pos 1)); offset = (fin true 1 (pos 0)); simple = false } ∷ record { slot = 0; source = record { read = D.Held 5 false; bipolar = false; table = true; slew = L.Free }; aux = X.Missing; «aux_invert» = false; bipolar = true; amount = G.Live; output = G.Fed 0 false; voice = false; scale = (fin false 1 (pos 1)); offset = (fin true 1 (pos 0)); simple = false } ∷ record { slot = 1; source = record { read = D.Held 37 false; bipolar = false; table = false; slew = L.Free }; aux = X.With (record { read = D.Signal 41 true; bipolar = true; table = false; slew = L.Free }); «aux_invert» = false; bipolar = true; amount = G.Live; output = G.Live; voice = true; scale = (fin false 1 (pos 1)); offset = (fin true 1 (pos 0)); simple = false } ∷ [])
     (record { slot = 3; reason = E.UnknownSource } ∷ [])
-unfolding w40 targetPlace verdict candidatesFrom skippedFrom candidates skippedOf inUse countedFeed feederOf reads hearsAudio isAudio controls audios planOrder planPlace readOf slewFor inputOf routeOf routesInto planOf plansOf allRoutes order secondsOf ratePerSample max32 isNan lt eq mul div
+unfolding w40 targetPlace verdict verdictsFrom verdicts candidates skippedOf inUse countedFeed usedDests feederOf readersOf reads hearsAudio isAudio controls audios planOrder slewFor inputBy routeBy routeIn planBy plansOf allRoutes order secondsOf ratePerSample max32 isNan lt eq mul div
 p40 = (refl, refl, refl, refl)
 
 -- gen.py 6
@@ -731,7 +732,7 @@ p41 : Compiles w41
     3
     (record { slot = 3; source = record { read = D.Held 1 true; bipolar = true; table = true; slew = L.Limit (inf false) (fin false 1 (negsuc 4)) }; aux = X.With (record { read = D.Signal 3 true; bipolar = false; table = false; slew = L.Free }); «aux_invert» = true; bipolar = false; amount = G.Live; output = G.Live; voice = true; scale = (fin false 1 (negsuc 0)); offset = (fin false 1 (negsuc 0)); simple = false } ∷ record { slot = 6; source = record { read = D.Signal 3 true; bipolar = false; table = false; slew = L.Free }; aux = X.With (record { read = D.Held 1 true; bipolar = true; table = false; slew = L.Free }); «aux_invert» = false; bipolar = false; amount = G.Live; output = G.Live; voice = true; scale = (fin false 1 (pos 0)); offset = (fin false 0 (pos 0)); simple = false } ∷ record { slot = 7; source = record { read = D.Signal 2 true; bipolar = true; table = true; slew = L.Free }; aux = X.Missing; «aux_invert» = false; bipolar = true; amount = G.Live; output = G.Live; voice = true; scale = (fin false 1 (pos 0)); offset = (fin false 0 (pos 0)); simple = false } ∷ record { slot = 5; source = record { read = D.Held 5 true; bipolar = true; table = false; slew = L.Free }; aux = X.Missing; «aux_invert» = false; bipolar = true; amount = G.Live; output = G.Live; voice = true; scale = (fin false 1 (pos 0)); offset = (fin false 0 (pos 0)); simple = false } ∷ record { slot = 0; source = record { read = D.Fed 1 false; bipolar = true; table = false; slew = L.Free }; aux = X.Missing; «aux_invert» = false; bipolar = false; amount = G.Live; output = G.Live; voice = false; scale = (fin false 1 (negsuc 0)); offset = (fin false 1 (negsuc 0)); simple = false } ∷ record { slot = 2; source = record { read = D.Held 6 true; bipolar = false; table = false; slew = L.Free }; aux = X.Missing; «aux_invert» = false; bipolar = false; amount = G.Live; output = G.Live; voice = true; scale = (fin false 1 (pos 0)); offset = (fin false 0 (pos 0)); simple = false } ∷ [])
     ([])
-unfolding w41 targetPlace verdict candidatesFrom skippedFrom candidates skippedOf inUse countedFeed feederOf reads hearsAudio isAudio controls audios planOrder planPlace readOf slewFor inputOf routeOf routesInto planOf plansOf allRoutes order secondsOf ratePerSample max32 isNan lt eq mul div
+unfolding w41 targetPlace verdict verdictsFrom verdicts candidates skippedOf inUse countedFeed usedDests feederOf readersOf reads hearsAudio isAudio controls audios planOrder slewFor inputBy routeBy routeIn planBy plansOf allRoutes order secondsOf ratePerSample max32 isNan lt eq mul div
 p41 = (refl, refl, refl, refl)
 
 -- gen.py 7
@@ -747,7 +748,7 @@ p42 : Compiles w42
     1
     (record { slot = 0; source = record { read = D.Signal 10 true; bipolar = false; table = false; slew = L.Free }; aux = X.With (record { read = D.Held 3 false; bipolar = false; table = true; slew = L.Free }); «aux_invert» = false; bipolar = true; amount = G.Fed 0 false; output = G.Live; voice = true; scale = (fin false 1 (pos 1)); offset = (fin true 1 (pos 0)); simple = false } ∷ [])
     ([])
-unfolding w42 targetPlace verdict candidatesFrom skippedFrom candidates skippedOf inUse countedFeed feederOf reads hearsAudio isAudio controls audios planOrder planPlace readOf slewFor inputOf routeOf routesInto planOf plansOf allRoutes order secondsOf ratePerSample max32 isNan lt eq mul div
+unfolding w42 targetPlace verdict verdictsFrom verdicts candidates skippedOf inUse countedFeed usedDests feederOf readersOf reads hearsAudio isAudio controls audios planOrder slewFor inputBy routeBy routeIn planBy plansOf allRoutes order secondsOf ratePerSample max32 isNan lt eq mul div
 p42 = (refl, refl, refl, refl)
 
 -- gen.py 14
@@ -763,7 +764,7 @@ p43 : Compiles w43
     0
     (record { slot = 0; source = record { read = D.Constant; bipolar = false; table = false; slew = L.Free }; aux = X.With (record { read = D.Constant; bipolar = false; table = false; slew = L.Free }); «aux_invert» = true; bipolar = false; amount = G.Live; output = G.Live; voice = false; scale = (fin false 1 (pos 0)); offset = (fin false 0 (pos 0)); simple = false } ∷ record { slot = 1; source = record { read = D.Signal 1 true; bipolar = true; table = false; slew = L.Free }; aux = X.With (record { read = D.Constant; bipolar = false; table = true; slew = L.Limit (fin false 5726623 (negsuc 37)) (fin false 4517509 (pos 62)) }); «aux_invert» = true; bipolar = false; amount = G.Live; output = G.Live; voice = true; scale = (fin false 1 (negsuc 0)); offset = (fin false 1 (negsuc 0)); simple = false } ∷ [])
     ([])
-unfolding w43 targetPlace verdict candidatesFrom skippedFrom candidates skippedOf inUse countedFeed feederOf reads hearsAudio isAudio controls audios planOrder planPlace readOf slewFor inputOf routeOf routesInto planOf plansOf allRoutes order secondsOf ratePerSample max32 isNan lt eq mul div
+unfolding w43 targetPlace verdict verdictsFrom verdicts candidates skippedOf inUse countedFeed usedDests feederOf readersOf reads hearsAudio isAudio controls audios planOrder slewFor inputBy routeBy routeIn planBy plansOf allRoutes order secondsOf ratePerSample max32 isNan lt eq mul div
 p43 = (refl, refl, refl, refl)
 
 -- gen.py 16
@@ -779,7 +780,7 @@ p44 : Compiles w44
     3
     (record { slot = 1; source = record { read = D.Fed 0 false; bipolar = false; table = false; slew = L.Free }; aux = X.With (record { read = D.Held 11 true; bipolar = false; table = true; slew = L.Limit (fin false 4517509 (pos 62)) (inf false) }); «aux_invert» = false; bipolar = true; amount = G.Live; output = G.Live; voice = true; scale = (fin false 1 (pos 1)); offset = (fin true 1 (pos 0)); simple = false } ∷ record { slot = 3; source = record { read = D.Fed 0 false; bipolar = false; table = false; slew = L.Free }; aux = X.Missing; «aux_invert» = false; bipolar = true; amount = G.Live; output = G.Live; voice = false; scale = (fin false 1 (pos 1)); offset = (fin true 1 (pos 0)); simple = false } ∷ record { slot = 2; source = record { read = D.Signal 8 true; bipolar = false; table = false; slew = L.Free }; aux = X.Missing; «aux_invert» = false; bipolar = false; amount = G.Live; output = G.Fed 2 false; voice = true; scale = (fin false 1 (pos 0)); offset = (fin false 0 (pos 0)); simple = false } ∷ record { slot = 0; source = record { read = D.Fed 0 false; bipolar = false; table = true; slew = L.Free }; aux = X.Missing; «aux_invert» = false; bipolar = true; amount = G.Fed 1 false; output = G.Live; voice = false; scale = (fin false 1 (pos 1)); offset = (fin true 1 (pos 0)); simple = false } ∷ [])
     ([])
-unfolding w44 targetPlace verdict candidatesFrom skippedFrom candidates skippedOf inUse countedFeed feederOf reads hearsAudio isAudio controls audios planOrder planPlace readOf slewFor inputOf routeOf routesInto planOf plansOf allRoutes order secondsOf ratePerSample max32 isNan lt eq mul div
+unfolding w44 targetPlace verdict verdictsFrom verdicts candidates skippedOf inUse countedFeed usedDests feederOf readersOf reads hearsAudio isAudio controls audios planOrder slewFor inputBy routeBy routeIn planBy plansOf allRoutes order secondsOf ratePerSample max32 isNan lt eq mul div
 p44 = (refl, refl, refl, refl)
 
 -- gen.py 24
@@ -795,7 +796,7 @@ p45 : Compiles w45
     3
     (record { slot = 1; source = record { read = D.Held 0 true; bipolar = false; table = false; slew = L.Free }; aux = X.With (record { read = D.Held 0 true; bipolar = false; table = false; slew = L.Free }); «aux_invert» = false; bipolar = false; amount = G.Live; output = G.Live; voice = true; scale = (fin false 1 (pos 0)); offset = (fin false 0 (pos 0)); simple = false } ∷ record { slot = 2; source = record { read = D.Held 0 true; bipolar = false; table = false; slew = L.Free }; aux = X.Missing; «aux_invert» = false; bipolar = false; amount = G.Live; output = G.Live; voice = true; scale = (fin false 1 (pos 0)); offset = (fin false 0 (pos 0)); simple = true } ∷ record { slot = 3; source = record { read = D.Held 1 true; bipolar = false; table = false; slew = L.Free }; aux = X.Missing; «aux_invert» = false; bipolar = false; amount = G.Live; output = G.Live; voice = true; scale = (fin false 1 (pos 0)); offset = (fin false 0 (pos 0)); simple = true } ∷ record { slot = 0; source = record { read = D.Held 0 true; bipolar = false; table = false; slew = L.Free }; aux = X.Missing; «aux_invert» = false; bipolar = true; amount = G.Live; output = G.Live; voice = true; scale = (fin false 1 (pos 1)); offset = (fin true 1 (pos 0)); simple = true } ∷ [])
     ([])
-unfolding w45 targetPlace verdict candidatesFrom skippedFrom candidates skippedOf inUse countedFeed feederOf reads hearsAudio isAudio controls audios planOrder planPlace readOf slewFor inputOf routeOf routesInto planOf plansOf allRoutes order secondsOf ratePerSample max32 isNan lt eq mul div
+unfolding w45 targetPlace verdict verdictsFrom verdicts candidates skippedOf inUse countedFeed usedDests feederOf readersOf reads hearsAudio isAudio controls audios planOrder slewFor inputBy routeBy routeIn planBy plansOf allRoutes order secondsOf ratePerSample max32 isNan lt eq mul div
 p45 = (refl, refl, refl, refl)
 
 -- gen.py 28
@@ -811,7 +812,7 @@ p46 : Compiles w46
     1
     (record { slot = 0; source = record { read = D.Signal 0 true; bipolar = true; table = true; slew = L.Limit (fin false 1 (negsuc 4)) (inf false) }; aux = X.Missing; «aux_invert» = false; bipolar = true; amount = G.Live; output = G.Live; voice = true; scale = (fin false 1 (pos 0)); offset = (fin false 0 (pos 0)); simple = false } ∷ record { slot = 2; source = record { read = D.Signal 5 true; bipolar = true; table = true; slew = L.Free }; aux = X.Missing; «aux_invert» = false; bipolar = true; amount = G.Fed 0 false; output = G.Live; voice = true; scale = (fin false 1 (pos 0)); offset = (fin false 0 (pos 0)); simple = false } ∷ record { slot = 3; source = record { read = D.Held 1 true; bipolar = false; table = false; slew = L.Free }; aux = X.Missing; «aux_invert» = false; bipolar = false; amount = G.Live; output = G.Live; voice = true; scale = (fin false 1 (pos 0)); offset = (fin false 0 (pos 0)); simple = false } ∷ record { slot = 4; source = record { read = D.Held 1 true; bipolar = false; table = true; slew = L.Limit (fin false 6233059 (negsuc 36)) (inf false) }; aux = X.Missing; «aux_invert» = false; bipolar = true; amount = G.Live; output = G.Live; voice = true; scale = (fin false 1 (pos 1)); offset = (fin true 1 (pos 0)); simple = false } ∷ record { slot = 6; source = record { read = D.Signal 6 false; bipolar = true; table = false; slew = L.Free }; aux = X.Missing; «aux_invert» = false; bipolar = false; amount = G.Live; output = G.Live; voice = false; scale = (fin false 1 (negsuc 0)); offset = (fin false 1 (negsuc 0)); simple = false } ∷ record { slot = 8; source = record { read = D.Constant; bipolar = false; table = true; slew = L.Free }; aux = X.Missing; «aux_invert» = false; bipolar = false; amount = G.Live; output = G.Live; voice = false; scale = (fin false 1 (pos 0)); offset = (fin false 0 (pos 0)); simple = false } ∷ [])
     (record { slot = 1; reason = E.UnknownDestination } ∷ record { slot = 7; reason = E.UnknownDestination } ∷ [])
-unfolding w46 targetPlace verdict candidatesFrom skippedFrom candidates skippedOf inUse countedFeed feederOf reads hearsAudio isAudio controls audios planOrder planPlace readOf slewFor inputOf routeOf routesInto planOf plansOf allRoutes order secondsOf ratePerSample max32 isNan lt eq mul div
+unfolding w46 targetPlace verdict verdictsFrom verdicts candidates skippedOf inUse countedFeed usedDests feederOf readersOf reads hearsAudio isAudio controls audios planOrder slewFor inputBy routeBy routeIn planBy plansOf allRoutes order secondsOf ratePerSample max32 isNan lt eq mul div
 p46 = (refl, refl, refl, refl)
 
 -- gen.py 31
@@ -827,7 +828,7 @@ p47 : Compiles w47
     4
     (record { slot = 2; source = record { read = D.Held 4 true; bipolar = false; table = true; slew = L.Limit (fin false 4293023 (negsuc 28)) (fin false 332307 (negsuc 123)) }; aux = X.Missing; «aux_invert» = false; bipolar = false; amount = G.Live; output = G.Live; voice = true; scale = (fin false 1 (pos 0)); offset = (fin false 0 (pos 0)); simple = false } ∷ record { slot = 1; source = record { read = D.Held 6 true; bipolar = false; table = true; slew = L.Limit (fin false 25 (negsuc 3)) (fin false 1 (negsuc 5)) }; aux = X.With (record { read = D.Held 4 true; bipolar = false; table = false; slew = L.Free }); «aux_invert» = true; bipolar = true; amount = G.Live; output = G.Live; voice = true; scale = (fin false 1 (pos 1)); offset = (fin true 1 (pos 0)); simple = false } ∷ record { slot = 6; source = record { read = D.Held 10 true; bipolar = false; table = false; slew = L.Free }; aux = X.Missing; «aux_invert» = false; bipolar = false; amount = G.Live; output = G.Live; voice = true; scale = (fin false 1 (pos 0)); offset = (fin false 0 (pos 0)); simple = false } ∷ record { slot = 4; source = record { read = D.Fed 2 false; bipolar = true; table = false; slew = L.Free }; aux = X.Missing; «aux_invert» = false; bipolar = false; amount = G.Live; output = G.Live; voice = false; scale = (fin false 1 (negsuc 0)); offset = (fin false 1 (negsuc 0)); simple = false } ∷ record { slot = 0; source = record { read = D.Held 0 true; bipolar = false; table = false; slew = L.Free }; aux = X.Missing; «aux_invert» = false; bipolar = true; amount = G.Live; output = G.Live; voice = true; scale = (fin false 1 (pos 1)); offset = (fin true 1 (pos 0)); simple = false } ∷ [])
     ([])
-unfolding w47 targetPlace verdict candidatesFrom skippedFrom candidates skippedOf inUse countedFeed feederOf reads hearsAudio isAudio controls audios planOrder planPlace readOf slewFor inputOf routeOf routesInto planOf plansOf allRoutes order secondsOf ratePerSample max32 isNan lt eq mul div
+unfolding w47 targetPlace verdict verdictsFrom verdicts candidates skippedOf inUse countedFeed usedDests feederOf readersOf reads hearsAudio isAudio controls audios planOrder slewFor inputBy routeBy routeIn planBy plansOf allRoutes order secondsOf ratePerSample max32 isNan lt eq mul div
 p47 = (refl, refl, refl, refl)
 
 -- gen.py 32
@@ -843,7 +844,7 @@ p48 : Compiles w48
     3
     (record { slot = 7; source = record { read = D.Held 10 true; bipolar = false; table = false; slew = L.Free }; aux = X.Missing; «aux_invert» = false; bipolar = false; amount = G.Live; output = G.Live; voice = true; scale = (fin false 1 (pos 0)); offset = (fin false 0 (pos 0)); simple = true } ∷ record { slot = 2; source = record { read = D.Held 2 false; bipolar = true; table = false; slew = L.Free }; aux = X.With (record { read = D.Fed 0 true; bipolar = false; table = true; slew = L.Free }); «aux_invert» = false; bipolar = false; amount = G.Live; output = G.Live; voice = true; scale = (fin false 1 (negsuc 0)); offset = (fin false 1 (negsuc 0)); simple = false } ∷ record { slot = 5; source = record { read = D.Signal 5 true; bipolar = true; table = false; slew = L.Free }; aux = X.Missing; «aux_invert» = false; bipolar = false; amount = G.Live; output = G.Live; voice = true; scale = (fin false 1 (negsuc 0)); offset = (fin false 1 (negsuc 0)); simple = false } ∷ record { slot = 1; source = record { read = D.Fed 0 true; bipolar = false; table = false; slew = L.Free }; aux = X.Missing; «aux_invert» = false; bipolar = true; amount = G.Live; output = G.Live; voice = true; scale = (fin false 1 (pos 1)); offset = (fin true 1 (pos 0)); simple = true } ∷ record { slot = 0; source = record { read = D.Signal 5 true; bipolar = true; table = true; slew = L.Limit (fin false 1 (negsuc 4)) (fin false 1 (negsuc 5)) }; aux = X.Missing; «aux_invert» = false; bipolar = false; amount = G.Live; output = G.Live; voice = true; scale = (fin false 1 (negsuc 0)); offset = (fin false 1 (negsuc 0)); simple = false } ∷ record { slot = 6; source = record { read = D.Signal 7 true; bipolar = false; table = true; slew = L.Limit (fin false 332307 (negsuc 123)) (fin false 1 (negsuc 4)) }; aux = X.Missing; «aux_invert» = false; bipolar = false; amount = G.Live; output = G.Live; voice = true; scale = (fin false 1 (pos 0)); offset = (fin false 0 (pos 0)); simple = false } ∷ [])
     (record { slot = 3; reason = E.UnknownSource } ∷ [])
-unfolding w48 targetPlace verdict candidatesFrom skippedFrom candidates skippedOf inUse countedFeed feederOf reads hearsAudio isAudio controls audios planOrder planPlace readOf slewFor inputOf routeOf routesInto planOf plansOf allRoutes order secondsOf ratePerSample max32 isNan lt eq mul div
+unfolding w48 targetPlace verdict verdictsFrom verdicts candidates skippedOf inUse countedFeed usedDests feederOf readersOf reads hearsAudio isAudio controls audios planOrder slewFor inputBy routeBy routeIn planBy plansOf allRoutes order secondsOf ratePerSample max32 isNan lt eq mul div
 p48 = (refl, refl, refl, refl)
 
 -- gen.py 34
@@ -859,7 +860,7 @@ p49 : Compiles w49
     5
     (record { slot = 0; source = record { read = D.Held 0 true; bipolar = false; table = false; slew = L.Free }; aux = X.Missing; «aux_invert» = false; bipolar = true; amount = G.Live; output = G.Live; voice = true; scale = (fin false 1 (pos 1)); offset = (fin true 1 (pos 0)); simple = false } ∷ record { slot = 2; source = record { read = D.Held 2 true; bipolar = false; table = true; slew = L.Limit (fin false 1 (negsuc 4)) (fin false 6703309 (negsuc 30)) }; aux = X.Missing; «aux_invert» = false; bipolar = false; amount = G.Live; output = G.Live; voice = true; scale = (fin false 1 (pos 0)); offset = (fin false 0 (pos 0)); simple = false } ∷ record { slot = 4; source = record { read = D.Held 1 false; bipolar = false; table = true; slew = L.Limit (fin false 1 (pos 0)) (inf false) }; aux = X.With (record { read = D.Held 2 true; bipolar = false; table = true; slew = L.Limit (fin false 1 (pos 0)) (fin false 6617445 (pos 71)) }); «aux_invert» = true; bipolar = true; amount = G.Live; output = G.Live; voice = true; scale = (fin false 1 (pos 1)); offset = (fin true 1 (pos 0)); simple = false } ∷ record { slot = 5; source = record { read = D.Held 1 false; bipolar = false; table = false; slew = L.Free }; aux = X.Missing; «aux_invert» = false; bipolar = false; amount = G.Live; output = G.Live; voice = false; scale = (fin false 1 (pos 0)); offset = (fin false 0 (pos 0)); simple = false } ∷ record { slot = 3; source = record { read = D.Held 1 false; bipolar = false; table = true; slew = L.Limit (fin false 14623187 (negsuc 32)) (inf false) }; aux = X.With (record { read = D.Held 1 false; bipolar = false; table = true; slew = L.Limit (fin false 1 (pos 0)) (fin false 332307 (negsuc 123)) }); «aux_invert» = true; bipolar = false; amount = G.Live; output = G.Fed 1 false; voice = false; scale = (fin false 1 (pos 0)); offset = (fin false 0 (pos 0)); simple = false } ∷ record { slot = 1; source = record { read = D.Held 3 true; bipolar = false; table = false; slew = L.Free }; aux = X.Missing; «aux_invert» = false; bipolar = false; amount = G.Live; output = G.Live; voice = true; scale = (fin false 1 (pos 0)); offset = (fin false 0 (pos 0)); simple = true } ∷ record { slot = 6; source = record { read = D.Held 4 true; bipolar = true; table = false; slew = L.Free }; aux = X.Missing; «aux_invert» = false; bipolar = false; amount = G.Live; output = G.Live; voice = true; scale = (fin false 1 (negsuc 0)); offset = (fin false 1 (negsuc 0)); simple = true } ∷ [])
     ([])
-unfolding w49 targetPlace verdict candidatesFrom skippedFrom candidates skippedOf inUse countedFeed feederOf reads hearsAudio isAudio controls audios planOrder planPlace readOf slewFor inputOf routeOf routesInto planOf plansOf allRoutes order secondsOf ratePerSample max32 isNan lt eq mul div
+unfolding w49 targetPlace verdict verdictsFrom verdicts candidates skippedOf inUse countedFeed usedDests feederOf readersOf reads hearsAudio isAudio controls audios planOrder slewFor inputBy routeBy routeIn planBy plansOf allRoutes order secondsOf ratePerSample max32 isNan lt eq mul div
 p49 = (refl, refl, refl, refl)
 
 -- gen.py 45
@@ -875,7 +876,7 @@ p50 : Compiles w50
     2
     (record { slot = 1; source = record { read = D.Held 3 false; bipolar = false; table = false; slew = L.Free }; aux = X.Missing; «aux_invert» = false; bipolar = false; amount = G.Fed 1 false; output = G.Live; voice = false; scale = (fin false 1 (pos 0)); offset = (fin false 0 (pos 0)); simple = false } ∷ record { slot = 0; source = record { read = D.Held 4 true; bipolar = false; table = false; slew = L.Free }; aux = X.Missing; «aux_invert» = false; bipolar = true; amount = G.Fed 0 false; output = G.Live; voice = true; scale = (fin false 1 (pos 1)); offset = (fin true 1 (pos 0)); simple = false } ∷ [])
     ([])
-unfolding w50 targetPlace verdict candidatesFrom skippedFrom candidates skippedOf inUse countedFeed feederOf reads hearsAudio isAudio controls audios planOrder planPlace readOf slewFor inputOf routeOf routesInto planOf plansOf allRoutes order secondsOf ratePerSample max32 isNan lt eq mul div
+unfolding w50 targetPlace verdict verdictsFrom verdicts candidates skippedOf inUse countedFeed usedDests feederOf readersOf reads hearsAudio isAudio controls audios planOrder slewFor inputBy routeBy routeIn planBy plansOf allRoutes order secondsOf ratePerSample max32 isNan lt eq mul div
 p50 = (refl, refl, refl, refl)
 
 -- gen.py 45
@@ -891,7 +892,7 @@ p51 : Compiles w51
     3
     (record { slot = 0; source = record { read = D.Signal 2 false; bipolar = false; table = false; slew = L.Free }; aux = X.With (record { read = D.Held 3 false; bipolar = false; table = false; slew = L.Free }); «aux_invert» = false; bipolar = false; amount = G.Fed 0 true; output = G.Live; voice = true; scale = (fin false 1 (pos 0)); offset = (fin false 0 (pos 0)); simple = false } ∷ record { slot = 1; source = record { read = D.Held 1 false; bipolar = false; table = true; slew = L.Free }; aux = X.Missing; «aux_invert» = false; bipolar = true; amount = G.Fed 1 false; output = G.Live; voice = false; scale = (fin false 1 (pos 1)); offset = (fin true 1 (pos 0)); simple = false } ∷ record { slot = 2; source = record { read = D.Held 1 false; bipolar = false; table = false; slew = L.Free }; aux = X.Missing; «aux_invert» = false; bipolar = true; amount = G.Live; output = G.Live; voice = false; scale = (fin false 1 (pos 1)); offset = (fin true 1 (pos 0)); simple = false } ∷ [])
     ([])
-unfolding w51 targetPlace verdict candidatesFrom skippedFrom candidates skippedOf inUse countedFeed feederOf reads hearsAudio isAudio controls audios planOrder planPlace readOf slewFor inputOf routeOf routesInto planOf plansOf allRoutes order secondsOf ratePerSample max32 isNan lt eq mul div
+unfolding w51 targetPlace verdict verdictsFrom verdicts candidates skippedOf inUse countedFeed usedDests feederOf readersOf reads hearsAudio isAudio controls audios planOrder slewFor inputBy routeBy routeIn planBy plansOf allRoutes order secondsOf ratePerSample max32 isNan lt eq mul div
 p51 = (refl, refl, refl, refl)
 
 -- gen.py 45
@@ -907,7 +908,7 @@ p52 : Compiles w52
     3
     (record { slot = 0; source = record { read = D.Signal 2 false; bipolar = false; table = false; slew = L.Free }; aux = X.With (record { read = D.Held 3 false; bipolar = false; table = false; slew = L.Free }); «aux_invert» = false; bipolar = false; amount = G.Fed 0 true; output = G.Live; voice = true; scale = (fin false 1 (pos 0)); offset = (fin false 0 (pos 0)); simple = false } ∷ record { slot = 1; source = record { read = D.Signal 2 false; bipolar = false; table = true; slew = L.Free }; aux = X.With (record { read = D.Fed 1 false; bipolar = false; table = false; slew = L.Free }); «aux_invert» = false; bipolar = true; amount = G.Fed 2 false; output = G.Live; voice = false; scale = (fin false 1 (pos 1)); offset = (fin true 1 (pos 0)); simple = false } ∷ record { slot = 2; source = record { read = D.Fed 1 false; bipolar = false; table = true; slew = L.Limit (fin false 332307 (negsuc 123)) (fin false 25 (negsuc 3)) }; aux = X.With (record { read = D.Fed 1 false; bipolar = false; table = false; slew = L.Free }); «aux_invert» = false; bipolar = true; amount = G.Live; output = G.Live; voice = false; scale = (fin false 1 (pos 1)); offset = (fin true 1 (pos 0)); simple = false } ∷ [])
     ([])
-unfolding w52 targetPlace verdict candidatesFrom skippedFrom candidates skippedOf inUse countedFeed feederOf reads hearsAudio isAudio controls audios planOrder planPlace readOf slewFor inputOf routeOf routesInto planOf plansOf allRoutes order secondsOf ratePerSample max32 isNan lt eq mul div
+unfolding w52 targetPlace verdict verdictsFrom verdicts candidates skippedOf inUse countedFeed usedDests feederOf readersOf reads hearsAudio isAudio controls audios planOrder slewFor inputBy routeBy routeIn planBy plansOf allRoutes order secondsOf ratePerSample max32 isNan lt eq mul div
 p52 = (refl, refl, refl, refl)
 
 -- gen.py 47
@@ -923,7 +924,7 @@ p53 : Compiles w53
     5
     (record { slot = 5; source = record { read = D.Held 6 true; bipolar = false; table = true; slew = L.Free }; aux = X.With (record { read = D.Signal 9 true; bipolar = true; table = false; slew = L.Free }); «aux_invert» = true; bipolar = false; amount = G.Live; output = G.Live; voice = true; scale = (fin false 1 (pos 0)); offset = (fin false 0 (pos 0)); simple = false } ∷ record { slot = 1; source = record { read = D.Held 7 true; bipolar = false; table = false; slew = L.Free }; aux = X.Missing; «aux_invert» = false; bipolar = false; amount = G.Live; output = G.Live; voice = true; scale = (fin false 1 (pos 0)); offset = (fin false 0 (pos 0)); simple = true } ∷ record { slot = 3; source = record { read = D.Fed 0 true; bipolar = false; table = false; slew = L.Free }; aux = X.Missing; «aux_invert» = false; bipolar = true; amount = G.Live; output = G.Live; voice = true; scale = (fin false 1 (pos 1)); offset = (fin true 1 (pos 0)); simple = true } ∷ record { slot = 10; source = record { read = D.Fed 0 true; bipolar = false; table = true; slew = L.Free }; aux = X.Missing; «aux_invert» = false; bipolar = false; amount = G.Live; output = G.Live; voice = true; scale = (fin false 1 (pos 0)); offset = (fin false 0 (pos 0)); simple = false } ∷ record { slot = 4; source = record { read = D.Fed 0 true; bipolar = false; table = true; slew = L.Free }; aux = X.Missing; «aux_invert» = false; bipolar = false; amount = G.Live; output = G.Live; voice = true; scale = (fin false 1 (pos 0)); offset = (fin false 0 (pos 0)); simple = false } ∷ record { slot = 8; source = record { read = D.Fed 0 true; bipolar = false; table = false; slew = L.Free }; aux = X.Missing; «aux_invert» = false; bipolar = true; amount = G.Live; output = G.Fed 2 true; voice = true; scale = (fin false 1 (pos 1)); offset = (fin true 1 (pos 0)); simple = false } ∷ record { slot = 11; source = record { read = D.Fed 0 true; bipolar = false; table = true; slew = L.Free }; aux = X.Missing; «aux_invert» = false; bipolar = false; amount = G.Live; output = G.Live; voice = true; scale = (fin false 1 (pos 0)); offset = (fin false 0 (pos 0)); simple = false } ∷ record { slot = 0; source = record { read = D.Held 1 false; bipolar = false; table = false; slew = L.Free }; aux = X.Missing; «aux_invert» = false; bipolar = true; amount = G.Fed 4 false; output = G.Live; voice = false; scale = (fin false 1 (pos 1)); offset = (fin true 1 (pos 0)); simple = false } ∷ [])
     ([])
-unfolding w53 targetPlace verdict candidatesFrom skippedFrom candidates skippedOf inUse countedFeed feederOf reads hearsAudio isAudio controls audios planOrder planPlace readOf slewFor inputOf routeOf routesInto planOf plansOf allRoutes order secondsOf ratePerSample max32 isNan lt eq mul div
+unfolding w53 targetPlace verdict verdictsFrom verdicts candidates skippedOf inUse countedFeed usedDests feederOf readersOf reads hearsAudio isAudio controls audios planOrder slewFor inputBy routeBy routeIn planBy plansOf allRoutes order secondsOf ratePerSample max32 isNan lt eq mul div
 p53 = (refl, refl, refl, refl)
 
 -- gen.py 47
@@ -939,7 +940,7 @@ p54 : Compiles w54
     6
     (record { slot = 5; source = record { read = D.Held 6 true; bipolar = false; table = true; slew = L.Free }; aux = X.With (record { read = D.Signal 9 true; bipolar = true; table = false; slew = L.Free }); «aux_invert» = true; bipolar = false; amount = G.Live; output = G.Live; voice = true; scale = (fin false 1 (pos 0)); offset = (fin false 0 (pos 0)); simple = false } ∷ record { slot = 11; source = record { read = D.Fed 0 true; bipolar = false; table = true; slew = L.Free }; aux = X.Missing; «aux_invert» = false; bipolar = true; amount = G.Live; output = G.Live; voice = true; scale = (fin false 1 (pos 1)); offset = (fin true 1 (pos 0)); simple = false } ∷ record { slot = 4; source = record { read = D.Fed 0 true; bipolar = false; table = true; slew = L.Free }; aux = X.Missing; «aux_invert» = false; bipolar = false; amount = G.Live; output = G.Live; voice = true; scale = (fin false 1 (pos 0)); offset = (fin false 0 (pos 0)); simple = false } ∷ record { slot = 3; source = record { read = D.Fed 0 true; bipolar = false; table = false; slew = L.Free }; aux = X.Missing; «aux_invert» = false; bipolar = true; amount = G.Live; output = G.Live; voice = true; scale = (fin false 1 (pos 1)); offset = (fin true 1 (pos 0)); simple = true } ∷ record { slot = 9; source = record { read = D.Fed 0 true; bipolar = false; table = false; slew = L.Free }; aux = X.Missing; «aux_invert» = false; bipolar = false; amount = G.Live; output = G.Live; voice = true; scale = (fin false 1 (pos 0)); offset = (fin false 0 (pos 0)); simple = true } ∷ record { slot = 1; source = record { read = D.Held 7 true; bipolar = false; table = false; slew = L.Free }; aux = X.Missing; «aux_invert» = false; bipolar = false; amount = G.Live; output = G.Live; voice = true; scale = (fin false 1 (pos 0)); offset = (fin false 0 (pos 0)); simple = true } ∷ record { slot = 8; source = record { read = D.Held 10 false; bipolar = false; table = true; slew = L.Limit (inf false) (fin false 1 (pos 0)) }; aux = X.With (record { read = D.Constant; bipolar = true; table = false; slew = L.Free }); «aux_invert» = true; bipolar = true; amount = G.Live; output = G.Fed 3 true; voice = true; scale = (fin false 1 (pos 1)); offset = (fin true 1 (pos 0)); simple = false } ∷ record { slot = 0; source = record { read = D.RouteRandom; bipolar = false; table = false; slew = L.Free }; aux = X.Missing; «aux_invert» = false; bipolar = true; amount = G.Fed 5 false; output = G.Live; voice = true; scale = (fin false 1 (pos 1)); offset = (fin true 1 (pos 0)); simple = false } ∷ record { slot = 10; source = record { read = D.Held 7 true; bipolar = false; table = true; slew = L.Limit (inf false) (fin false 1 (negsuc 4)) }; aux = X.Missing; «aux_invert» = false; bipolar = true; amount = G.Live; output = G.Live; voice = true; scale = (fin false 1 (pos 1)); offset = (fin true 1 (pos 0)); simple = false } ∷ [])
     ([])
-unfolding w54 targetPlace verdict candidatesFrom skippedFrom candidates skippedOf inUse countedFeed feederOf reads hearsAudio isAudio controls audios planOrder planPlace readOf slewFor inputOf routeOf routesInto planOf plansOf allRoutes order secondsOf ratePerSample max32 isNan lt eq mul div
+unfolding w54 targetPlace verdict verdictsFrom verdicts candidates skippedOf inUse countedFeed usedDests feederOf readersOf reads hearsAudio isAudio controls audios planOrder slewFor inputBy routeBy routeIn planBy plansOf allRoutes order secondsOf ratePerSample max32 isNan lt eq mul div
 p54 = (refl, refl, refl, refl)
 
 -- gen.py 52
@@ -955,7 +956,7 @@ p55 : Compiles w55
     6
     (record { slot = 0; source = record { read = D.Fed 0 true; bipolar = false; table = false; slew = L.Free }; aux = X.With (record { read = D.Fed 0 true; bipolar = false; table = true; slew = L.Free }); «aux_invert» = false; bipolar = false; amount = G.Live; output = G.Live; voice = true; scale = (fin false 1 (pos 0)); offset = (fin false 0 (pos 0)); simple = false } ∷ record { slot = 3; source = record { read = D.Fed 0 true; bipolar = false; table = false; slew = L.Free }; aux = X.Missing; «aux_invert» = false; bipolar = true; amount = G.Live; output = G.Live; voice = true; scale = (fin false 1 (pos 1)); offset = (fin true 1 (pos 0)); simple = true } ∷ record { slot = 4; source = record { read = D.Fed 0 true; bipolar = false; table = true; slew = L.Free }; aux = X.Missing; «aux_invert» = false; bipolar = false; amount = G.Live; output = G.Live; voice = true; scale = (fin false 1 (pos 0)); offset = (fin false 0 (pos 0)); simple = false } ∷ record { slot = 10; source = record { read = D.Fed 0 true; bipolar = false; table = false; slew = L.Free }; aux = X.Missing; «aux_invert» = false; bipolar = true; amount = G.Live; output = G.Live; voice = true; scale = (fin false 1 (pos 1)); offset = (fin true 1 (pos 0)); simple = true } ∷ record { slot = 5; source = record { read = D.Fed 0 true; bipolar = false; table = false; slew = L.Free }; aux = X.Missing; «aux_invert» = false; bipolar = true; amount = G.Live; output = G.Live; voice = true; scale = (fin false 1 (pos 1)); offset = (fin true 1 (pos 0)); simple = true } ∷ record { slot = 7; source = record { read = D.Fed 0 true; bipolar = false; table = true; slew = L.Free }; aux = X.With (record { read = D.Fed 0 true; bipolar = false; table = false; slew = L.Free }); «aux_invert» = true; bipolar = false; amount = G.Live; output = G.Live; voice = true; scale = (fin false 1 (pos 0)); offset = (fin false 0 (pos 0)); simple = false } ∷ record { slot = 11; source = record { read = D.Fed 0 true; bipolar = false; table = false; slew = L.Free }; aux = X.Missing; «aux_invert» = false; bipolar = true; amount = G.Live; output = G.Live; voice = true; scale = (fin false 1 (pos 1)); offset = (fin true 1 (pos 0)); simple = true } ∷ record { slot = 2; source = record { read = D.Held 2 true; bipolar = false; table = false; slew = L.Free }; aux = X.Missing; «aux_invert» = false; bipolar = true; amount = G.Live; output = G.Live; voice = true; scale = (fin false 1 (pos 1)); offset = (fin true 1 (pos 0)); simple = true } ∷ record { slot = 1; source = record { read = D.Signal 1 false; bipolar = false; table = false; slew = L.Free }; aux = X.Missing; «aux_invert» = false; bipolar = false; amount = G.Live; output = G.Fed 2 true; voice = true; scale = (fin false 1 (pos 0)); offset = (fin false 0 (pos 0)); simple = false } ∷ record { slot = 9; source = record { read = D.Held 4 true; bipolar = false; table = false; slew = L.Free }; aux = X.Missing; «aux_invert» = false; bipolar = false; amount = G.Live; output = G.Live; voice = true; scale = (fin false 1 (pos 0)); offset = (fin false 0 (pos 0)); simple = true } ∷ record { slot = 8; source = record { read = D.Held 5 true; bipolar = false; table = false; slew = L.Free }; aux = X.With (record { read = D.Fed 4 true; bipolar = false; table = true; slew = L.Limit (fin false 171667 (negsuc 23)) (fin false 9132079 (negsuc 28)) }); «aux_invert» = false; bipolar = false; amount = G.Live; output = G.Live; voice = true; scale = (fin false 1 (pos 0)); offset = (fin false 0 (pos 0)); simple = false } ∷ record { slot = 6; source = record { read = D.Fed 0 true; bipolar = false; table = false; slew = L.Free }; aux = X.Missing; «aux_invert» = false; bipolar = true; amount = G.Live; output = G.Live; voice = true; scale = (fin false 1 (pos 1)); offset = (fin true 1 (pos 0)); simple = true } ∷ [])
     ([])
-unfolding w55 targetPlace verdict candidatesFrom skippedFrom candidates skippedOf inUse countedFeed feederOf reads hearsAudio isAudio controls audios planOrder planPlace readOf slewFor inputOf routeOf routesInto planOf plansOf allRoutes order secondsOf ratePerSample max32 isNan lt eq mul div
+unfolding w55 targetPlace verdict verdictsFrom verdicts candidates skippedOf inUse countedFeed usedDests feederOf readersOf reads hearsAudio isAudio controls audios planOrder slewFor inputBy routeBy routeIn planBy plansOf allRoutes order secondsOf ratePerSample max32 isNan lt eq mul div
 p55 = (refl, refl, refl, refl)
 
 -- gen.py 57
@@ -971,7 +972,7 @@ p56 : Compiles w56
     5
     (record { slot = 5; source = record { read = D.Constant; bipolar = false; table = false; slew = L.Free }; aux = X.Missing; «aux_invert» = false; bipolar = true; amount = G.Live; output = G.Live; voice = false; scale = (fin false 1 (pos 1)); offset = (fin true 1 (pos 0)); simple = false } ∷ record { slot = 8; source = record { read = D.Constant; bipolar = false; table = true; slew = L.Limit (fin false 9205723 (negsuc 31)) (fin false 1 (pos 0)) }; aux = X.Missing; «aux_invert» = false; bipolar = true; amount = G.Live; output = G.Live; voice = false; scale = (fin false 1 (pos 1)); offset = (fin true 1 (pos 0)); simple = false } ∷ record { slot = 3; source = record { read = D.Constant; bipolar = false; table = false; slew = L.Free }; aux = X.Missing; «aux_invert» = false; bipolar = true; amount = G.Live; output = G.Live; voice = false; scale = (fin false 1 (pos 1)); offset = (fin true 1 (pos 0)); simple = false } ∷ record { slot = 4; source = record { read = D.Constant; bipolar = false; table = true; slew = L.Free }; aux = X.Missing; «aux_invert» = false; bipolar = false; amount = G.Live; output = G.Live; voice = false; scale = (fin false 1 (pos 0)); offset = (fin false 0 (pos 0)); simple = false } ∷ record { slot = 6; source = record { read = D.Held 1 false; bipolar = false; table = false; slew = L.Free }; aux = X.With (record { read = D.Held 1 false; bipolar = false; table = false; slew = L.Free }); «aux_invert» = false; bipolar = true; amount = G.Live; output = G.Live; voice = false; scale = (fin false 1 (pos 1)); offset = (fin true 1 (pos 0)); simple = false } ∷ record { slot = 11; source = record { read = D.Constant; bipolar = false; table = false; slew = L.Free }; aux = X.Missing; «aux_invert» = false; bipolar = false; amount = G.Live; output = G.Live; voice = false; scale = (fin false 1 (pos 0)); offset = (fin false 0 (pos 0)); simple = false } ∷ record { slot = 0; source = record { read = D.Held 1 false; bipolar = false; table = false; slew = L.Free }; aux = X.Missing; «aux_invert» = false; bipolar = false; amount = G.Live; output = G.Live; voice = false; scale = (fin false 1 (pos 0)); offset = (fin false 0 (pos 0)); simple = false } ∷ record { slot = 9; source = record { read = D.Constant; bipolar = false; table = false; slew = L.Free }; aux = X.Missing; «aux_invert» = false; bipolar = true; amount = G.Live; output = G.Live; voice = false; scale = (fin false 1 (pos 1)); offset = (fin true 1 (pos 0)); simple = false } ∷ record { slot = 1; source = record { read = D.Constant; bipolar = false; table = false; slew = L.Free }; aux = X.Missing; «aux_invert» = false; bipolar = true; amount = G.Live; output = G.Live; voice = false; scale = (fin false 1 (pos 1)); offset = (fin true 1 (pos 0)); simple = false } ∷ record { slot = 2; source = record { read = D.Held 4 false; bipolar = true; table = true; slew = L.Free }; aux = X.With (record { read = D.Held 1 false; bipolar = false; table = false; slew = L.Free }); «aux_invert» = true; bipolar = false; amount = G.Fed 3 true; output = G.Live; voice = true; scale = (fin false 1 (negsuc 0)); offset = (fin false 1 (negsuc 0)); simple = false } ∷ record { slot = 10; source = record { read = D.Held 1 false; bipolar = false; table = true; slew = L.Free }; aux = X.Missing; «aux_invert» = false; bipolar = true; amount = G.Live; output = G.Live; voice = false; scale = (fin false 1 (pos 1)); offset = (fin true 1 (pos 0)); simple = false } ∷ [])
     ([])
-unfolding w56 targetPlace verdict candidatesFrom skippedFrom candidates skippedOf inUse countedFeed feederOf reads hearsAudio isAudio controls audios planOrder planPlace readOf slewFor inputOf routeOf routesInto planOf plansOf allRoutes order secondsOf ratePerSample max32 isNan lt eq mul div
+unfolding w56 targetPlace verdict verdictsFrom verdicts candidates skippedOf inUse countedFeed usedDests feederOf readersOf reads hearsAudio isAudio controls audios planOrder slewFor inputBy routeBy routeIn planBy plansOf allRoutes order secondsOf ratePerSample max32 isNan lt eq mul div
 p56 = (refl, refl, refl, refl)
 
 -- gen.py 99
@@ -987,7 +988,7 @@ p57 : Compiles w57
     0
     (record { slot = 2; source = record { read = D.Signal 2 true; bipolar = false; table = false; slew = L.Free }; aux = X.Missing; «aux_invert» = false; bipolar = false; amount = G.Live; output = G.Live; voice = true; scale = (fin false 1 (pos 0)); offset = (fin false 0 (pos 0)); simple = true } ∷ record { slot = 0; source = record { read = D.Signal 0 true; bipolar = true; table = false; slew = L.Free }; aux = X.Missing; «aux_invert» = false; bipolar = true; amount = G.Live; output = G.Live; voice = true; scale = (fin false 1 (pos 0)); offset = (fin false 0 (pos 0)); simple = true } ∷ [])
     (record { slot = 1; reason = E.UnknownAux } ∷ [])
-unfolding w57 targetPlace verdict candidatesFrom skippedFrom candidates skippedOf inUse countedFeed feederOf reads hearsAudio isAudio controls audios planOrder planPlace readOf slewFor inputOf routeOf routesInto planOf plansOf allRoutes order secondsOf ratePerSample max32 isNan lt eq mul div
+unfolding w57 targetPlace verdict verdictsFrom verdicts candidates skippedOf inUse countedFeed usedDests feederOf readersOf reads hearsAudio isAudio controls audios planOrder slewFor inputBy routeBy routeIn planBy plansOf allRoutes order secondsOf ratePerSample max32 isNan lt eq mul div
 p57 = (refl, refl, refl, refl)
 
 -- gen.py 166
@@ -1003,7 +1004,7 @@ p58 : Compiles w58
     1
     (record { slot = 0; source = record { read = D.Held 1 false; bipolar = false; table = false; slew = L.Free }; aux = X.Missing; «aux_invert» = false; bipolar = false; amount = G.Live; output = G.Live; voice = false; scale = (fin false 1 (pos 0)); offset = (fin false 0 (pos 0)); simple = false } ∷ record { slot = 1; source = record { read = D.Fed 0 true; bipolar = false; table = false; slew = L.Free }; aux = X.Missing; «aux_invert» = false; bipolar = true; amount = G.Live; output = G.Live; voice = true; scale = (fin false 1 (pos 1)); offset = (fin true 1 (pos 0)); simple = true } ∷ record { slot = 2; source = record { read = D.Constant; bipolar = false; table = false; slew = L.Free }; aux = X.With (record { read = D.Signal 19 false; bipolar = true; table = false; slew = L.Free }); «aux_invert» = true; bipolar = false; amount = G.Live; output = G.Live; voice = false; scale = (fin false 1 (pos 0)); offset = (fin false 0 (pos 0)); simple = false } ∷ record { slot = 4; source = record { read = D.Constant; bipolar = false; table = false; slew = L.Free }; aux = X.Missing; «aux_invert» = false; bipolar = false; amount = G.Live; output = G.Live; voice = false; scale = (fin false 1 (pos 0)); offset = (fin false 0 (pos 0)); simple = false } ∷ record { slot = 5; source = record { read = D.Held 7 false; bipolar = false; table = true; slew = L.Free }; aux = X.Missing; «aux_invert» = false; bipolar = false; amount = G.Live; output = G.Live; voice = false; scale = (fin false 1 (pos 0)); offset = (fin false 0 (pos 0)); simple = false } ∷ record { slot = 7; source = record { read = D.Signal 15 false; bipolar = false; table = true; slew = L.Limit (fin false 12994425 (negsuc 39)) (fin false 10151895 (negsuc 32)) }; aux = X.With (record { read = D.RouteRandom; bipolar = false; table = true; slew = L.Limit (fin false 4638269 (negsuc 27)) (fin false 1 (pos 0)) }); «aux_invert» = true; bipolar = false; amount = G.Live; output = G.Live; voice = true; scale = (fin false 1 (pos 0)); offset = (fin false 0 (pos 0)); simple = false } ∷ [])
     (record { slot = 3; reason = E.UnknownAux } ∷ [])
-unfolding w58 targetPlace verdict candidatesFrom skippedFrom candidates skippedOf inUse countedFeed feederOf reads hearsAudio isAudio controls audios planOrder planPlace readOf slewFor inputOf routeOf routesInto planOf plansOf allRoutes order secondsOf ratePerSample max32 isNan lt eq mul div
+unfolding w58 targetPlace verdict verdictsFrom verdicts candidates skippedOf inUse countedFeed usedDests feederOf readersOf reads hearsAudio isAudio controls audios planOrder slewFor inputBy routeBy routeIn planBy plansOf allRoutes order secondsOf ratePerSample max32 isNan lt eq mul div
 p58 = (refl, refl, refl, refl)
 
 -- gen.py 200
@@ -1019,7 +1020,7 @@ p59 : Compiles w59
     2
     (record { slot = 0; source = record { read = D.Held 5 true; bipolar = false; table = false; slew = L.Free }; aux = X.Missing; «aux_invert» = false; bipolar = true; amount = G.Live; output = G.Live; voice = true; scale = (fin false 1 (pos 1)); offset = (fin true 1 (pos 0)); simple = false } ∷ record { slot = 3; source = record { read = D.Held 4 true; bipolar = false; table = false; slew = L.Free }; aux = X.Missing; «aux_invert» = false; bipolar = false; amount = G.Fed 0 false; output = G.Live; voice = true; scale = (fin false 1 (pos 0)); offset = (fin false 0 (pos 0)); simple = false } ∷ [])
     ([])
-unfolding w59 targetPlace verdict candidatesFrom skippedFrom candidates skippedOf inUse countedFeed feederOf reads hearsAudio isAudio controls audios planOrder planPlace readOf slewFor inputOf routeOf routesInto planOf plansOf allRoutes order secondsOf ratePerSample max32 isNan lt eq mul div
+unfolding w59 targetPlace verdict verdictsFrom verdicts candidates skippedOf inUse countedFeed usedDests feederOf readersOf reads hearsAudio isAudio controls audios planOrder slewFor inputBy routeBy routeIn planBy plansOf allRoutes order secondsOf ratePerSample max32 isNan lt eq mul div
 p59 = (refl, refl, refl, refl)
 
 -- gen.py 206
@@ -1035,7 +1036,7 @@ p60 : Compiles w60
     3
     (record { slot = 1; source = record { read = D.Signal 1 true; bipolar = true; table = true; slew = L.Free }; aux = X.Missing; «aux_invert» = false; bipolar = true; amount = G.Live; output = G.Live; voice = true; scale = (fin false 1 (pos 0)); offset = (fin false 0 (pos 0)); simple = false } ∷ record { slot = 2; source = record { read = D.Signal 0 true; bipolar = false; table = false; slew = L.Free }; aux = X.Missing; «aux_invert» = false; bipolar = false; amount = G.Live; output = G.Live; voice = true; scale = (fin false 1 (pos 0)); offset = (fin false 0 (pos 0)); simple = false } ∷ record { slot = 0; source = record { read = D.Signal 1 true; bipolar = true; table = true; slew = L.Limit (inf false) (fin false 1 (pos 0)) }; aux = X.Missing; «aux_invert» = false; bipolar = false; amount = G.Live; output = G.Live; voice = true; scale = (fin false 1 (negsuc 0)); offset = (fin false 1 (negsuc 0)); simple = false } ∷ [])
     ([])
-unfolding w60 targetPlace verdict candidatesFrom skippedFrom candidates skippedOf inUse countedFeed feederOf reads hearsAudio isAudio controls audios planOrder planPlace readOf slewFor inputOf routeOf routesInto planOf plansOf allRoutes order secondsOf ratePerSample max32 isNan lt eq mul div
+unfolding w60 targetPlace verdict verdictsFrom verdicts candidates skippedOf inUse countedFeed usedDests feederOf readersOf reads hearsAudio isAudio controls audios planOrder slewFor inputBy routeBy routeIn planBy plansOf allRoutes order secondsOf ratePerSample max32 isNan lt eq mul div
 p60 = (refl, refl, refl, refl)
 
 -- gen.py 348
@@ -1051,7 +1052,7 @@ p61 : Compiles w61
     0
     (record { slot = 1; source = record { read = D.Held 0 true; bipolar = false; table = false; slew = L.Free }; aux = X.Missing; «aux_invert» = false; bipolar = false; amount = G.Live; output = G.Live; voice = true; scale = (fin false 1 (pos 0)); offset = (fin false 0 (pos 0)); simple = false } ∷ record { slot = 2; source = record { read = D.Signal 5 false; bipolar = true; table = false; slew = L.Free }; aux = X.Missing; «aux_invert» = false; bipolar = true; amount = G.Live; output = G.Live; voice = false; scale = (fin false 1 (pos 0)); offset = (fin false 0 (pos 0)); simple = false } ∷ [])
     (record { slot = 3; reason = E.UnknownDestination } ∷ [])
-unfolding w61 targetPlace verdict candidatesFrom skippedFrom candidates skippedOf inUse countedFeed feederOf reads hearsAudio isAudio controls audios planOrder planPlace readOf slewFor inputOf routeOf routesInto planOf plansOf allRoutes order secondsOf ratePerSample max32 isNan lt eq mul div
+unfolding w61 targetPlace verdict verdictsFrom verdicts candidates skippedOf inUse countedFeed usedDests feederOf readersOf reads hearsAudio isAudio controls audios planOrder slewFor inputBy routeBy routeIn planBy plansOf allRoutes order secondsOf ratePerSample max32 isNan lt eq mul div
 p61 = (refl, refl, refl, refl)
 
 -- gen.py 354
@@ -1067,7 +1068,7 @@ p62 : Compiles w62
     5
     (record { slot = 3; source = record { read = D.Held 1 false; bipolar = false; table = false; slew = L.Free }; aux = X.Missing; «aux_invert» = false; bipolar = true; amount = G.Fed 0 false; output = G.Live; voice = false; scale = (fin false 1 (pos 1)); offset = (fin true 1 (pos 0)); simple = false } ∷ record { slot = 5; source = record { read = D.Held 9 true; bipolar = false; table = false; slew = L.Free }; aux = X.Missing; «aux_invert» = false; bipolar = true; amount = G.Live; output = G.Live; voice = true; scale = (fin false 1 (pos 1)); offset = (fin true 1 (pos 0)); simple = false } ∷ record { slot = 6; source = record { read = D.Held 8 true; bipolar = false; table = false; slew = L.Free }; aux = X.Missing; «aux_invert» = false; bipolar = true; amount = G.Live; output = G.Fed 1 false; voice = true; scale = (fin false 1 (pos 1)); offset = (fin true 1 (pos 0)); simple = false } ∷ record { slot = 1; source = record { read = D.Held 1 false; bipolar = false; table = false; slew = L.Free }; aux = X.Missing; «aux_invert» = false; bipolar = true; amount = G.Live; output = G.Fed 4 false; voice = false; scale = (fin false 1 (pos 1)); offset = (fin true 1 (pos 0)); simple = false } ∷ record { slot = 0; source = record { read = D.Held 2 false; bipolar = false; table = false; slew = L.Free }; aux = X.Missing; «aux_invert» = false; bipolar = true; amount = G.Fed 3 true; output = G.Live; voice = true; scale = (fin false 1 (pos 1)); offset = (fin true 1 (pos 0)); simple = false } ∷ [])
     ([])
-unfolding w62 targetPlace verdict candidatesFrom skippedFrom candidates skippedOf inUse countedFeed feederOf reads hearsAudio isAudio controls audios planOrder planPlace readOf slewFor inputOf routeOf routesInto planOf plansOf allRoutes order secondsOf ratePerSample max32 isNan lt eq mul div
+unfolding w62 targetPlace verdict verdictsFrom verdicts candidates skippedOf inUse countedFeed usedDests feederOf readersOf reads hearsAudio isAudio controls audios planOrder slewFor inputBy routeBy routeIn planBy plansOf allRoutes order secondsOf ratePerSample max32 isNan lt eq mul div
 p62 = (refl, refl, refl, refl)
 
 -- gen.py 368
@@ -1083,5 +1084,5 @@ p63 : Compiles w63
     1
     (record { slot = 1; source = record { read = D.Signal 0 false; bipolar = false; table = false; slew = L.Free }; aux = X.Missing; «aux_invert» = false; bipolar = true; amount = G.Live; output = G.Fed 0 false; voice = false; scale = (fin false 1 (pos 1)); offset = (fin true 1 (pos 0)); simple = false } ∷ [])
     ([])
-unfolding w63 targetPlace verdict candidatesFrom skippedFrom candidates skippedOf inUse countedFeed feederOf reads hearsAudio isAudio controls audios planOrder planPlace readOf slewFor inputOf routeOf routesInto planOf plansOf allRoutes order secondsOf ratePerSample max32 isNan lt eq mul div
+unfolding w63 targetPlace verdict verdictsFrom verdicts candidates skippedOf inUse countedFeed usedDests feederOf readersOf reads hearsAudio isAudio controls audios planOrder slewFor inputBy routeBy routeIn planBy plansOf allRoutes order secondsOf ratePerSample max32 isNan lt eq mul div
 p63 = (refl, refl, refl, refl)

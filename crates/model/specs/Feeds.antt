@@ -2,12 +2,11 @@
 -- stand side by side: `reads` goes by the feeder that is read, and gives the order; `countedInto` goes by every counted feed, read or not, and is
 -- what demand 3 bars chains of. Definitions only.
 use mathlib.Core.Bool.{Bool, true, false, cond, not, _&&_, _||_}
-use mathlib.Core.List.{List, [], _∷_, _++_}
-use mathlib.Core.Option.{Option, some, none}
+use mathlib.Core.List.{List, [], _∷_, _++_, map}
 use Prim.Native.Nat.{ℕ}
 use lib.Dec.{eqb, ltb}
 use Rattle.config.specs.Sizes.{slots}
-use Rattle.feed.specs.Numbers.{keep}
+use Rattle.feed.specs.Numbers.{keep, upFrom}
 use Rattle.feed.specs.Order.{order}
 use Rattle.state.specs.declared.Kind.{Kind}
 use Rattle.state.specs.declared.Kind.the-variants as K
@@ -17,27 +16,33 @@ use Rattle.state.specs.declared.Rate.{Rate}
 use Rattle.state.specs.declared.Rate.the-variants as T
 use Rattle.state.specs.declared.Feed.{Feed}
 use Rattle.state.specs.declared.Feed.the-variants as F
-use Rattle.state.specs.declared.Pick.{Pick}
-use Rattle.state.specs.declared.Pick.the-variants as P
+use Rattle.state.specs.declared.Base.{Base}
+use Rattle.state.specs.declared.Base.the-variants as B
 use Rattle.state.specs.declared.Source.{Source}
 use Rattle.state.specs.declared.Sources.{Sources}
-use Rattle.state.specs.Registry.{knownSource, sourceAt, destAt}
-use Rattle.model.specs.Wiring.{Wiring, Candidate, candidates}
+use Rattle.state.specs.declared.Dest.{Dest}
+use Rattle.state.specs.declared.Destinations.{Destinations}
+use Rattle.state.specs.declared.Wiring.{Wiring}
+use Rattle.state.specs.declared.AuxSource.{AuxSource}
+use Rattle.state.specs.declared.AuxSource.the-variants as X
+use Rattle.state.specs.declared.Candidate.{Candidate}
+use Rattle.state.specs.declared.Used.{Used}
+use Rattle.state.specs.declared.Feeder.{Feeder}
+use Rattle.state.specs.declared.Feeder.the-variants as E
+use Rattle.state.specs.declared.Reader.{Reader}
+use Rattle.state.specs.Registry.{knownSource, sourceAt, destCount, destAt}
+use Rattle.model.specs.Wiring.{candidates}
 
 -- ---- destinations in use: "A destination is in use if a candidate names it"
 
-abbrev pub insertOnce : ℕ → List ℕ → List ℕ
-insertOnce d [] = d ∷ []
-insertOnce d (x ∷ xs) = let later = x ∷ insertOnce d xs in cond (ltb d x) (d ∷ x ∷ xs) (cond (eqb d x) (x ∷ xs) later)
-
-abbrev pub destsOf : List Candidate → List ℕ
-destsOf [] = []
-destsOf (c ∷ cs) = insertOnce (c .dest) (destsOf cs)
+abbrev pub named : List Candidate → ℕ → Bool
+named [] d = false
+named (c ∷ cs) d = eqb (c .dest) d || named cs d
 
 -- each once, ascending
 unfoldable pub inUse : Wiring → List ℕ
 unfolding candidates
-inUse w = destsOf (candidates w)
+inUse w = keep (named (candidates w)) (upFrom 0 (destCount (w .dests)))
 
 -- ---- feeds that count: "A source feed counts only onto a Held source of Global scope"
 
@@ -54,87 +59,42 @@ isHeld K.RandomPerRoute = false
 isHeld K.VoiceLoad = false
 isHeld K.Constant = false
 
-abbrev pub isGlobal : Scope → Bool
-isGlobal S.Voice = false
-isGlobal S.Global = true
+abbrev pub isVoice : Scope → Bool
+isVoice S.Voice = true
+isVoice S.Global = false
 
 abbrev pub heldGlobal : Source → Bool
-heldGlobal s = isHeld (s .kind) && isGlobal (s .scope)
+heldGlobal s = isHeld (s .kind) && not (isVoice (s .scope))
 
--- a feed slot beyond the last is no slot
-abbrev pub counts : Sources → Feed → Feed
-counts ss F.Nothing = F.Nothing
-counts ss (F.Source i) = cond (knownSource ss i && heldGlobal (sourceAt ss i)) (F.Source i) F.Nothing
-counts ss (F.Amount n) = cond (ltb n slots) (F.Amount n) F.Nothing
-counts ss (F.Output n) = cond (ltb n slots) (F.Output n) F.Nothing
+-- what is fed, where the feed counts: the thing whose number is then the base (program.rs 304-316, 378-383); a feed slot beyond the last is no slot
+abbrev pub counted : Sources → Feed → Base
+counted ss F.Nothing = B.Set
+counted ss (F.Source i) = cond (knownSource ss i && heldGlobal (sourceAt ss i)) (B.Held i) B.Set
+counted ss (F.Amount n) = cond (ltb n slots) (B.Amount n) B.Set
+counted ss (F.Output n) = cond (ltb n slots) (B.Output n) B.Set
 
--- the counted feed of a destination (program.rs 304-316)
-unfoldable pub countedFeed : Wiring → ℕ → Feed
-countedFeed w d = counts (w .sources) (destAt (w .dests) d .feed)
+-- the counted feed of a destination
+unfoldable pub countedFeed : Wiring → ℕ → Base
+countedFeed w d = counted (w .sources) (destAt (w .dests) d .feed)
 
-abbrev pub sameFeed : Feed → Feed → Bool
-sameFeed F.Nothing F.Nothing = false
-sameFeed F.Nothing (F.Source j) = false
-sameFeed F.Nothing (F.Amount j) = false
-sameFeed F.Nothing (F.Output j) = false
-sameFeed (F.Source i) F.Nothing = false
-sameFeed (F.Source i) (F.Source j) = eqb i j
-sameFeed (F.Source i) (F.Amount j) = false
-sameFeed (F.Source i) (F.Output j) = false
-sameFeed (F.Amount i) F.Nothing = false
-sameFeed (F.Amount i) (F.Source j) = false
-sameFeed (F.Amount i) (F.Amount j) = eqb i j
-sameFeed (F.Amount i) (F.Output j) = false
-sameFeed (F.Output i) F.Nothing = false
-sameFeed (F.Output i) (F.Source j) = false
-sameFeed (F.Output i) (F.Amount j) = false
-sameFeed (F.Output i) (F.Output j) = eqb i j
-
--- ---- the feeder that is read: "Of several used destinations feeding one thing, the highest-numbered is read" (program.rs 317-326)
-
-abbrev pub orElse : Option ℕ → Option ℕ → Option ℕ
-orElse none y = y
-orElse (some x) y = some x
-
--- the last of the list that feeds the thing
-abbrev pub lastFeeder : (ℕ → Feed) → Feed → List ℕ → Option ℕ
-lastFeeder f t [] = none
-lastFeeder f t (d ∷ ds) = orElse (lastFeeder f t ds) (cond (sameFeed (f d) t) (some d) none)
-
-unfoldable pub feederOf : Wiring → Feed → Option ℕ
-unfolding countedFeed inUse
-feederOf w t = lastFeeder (countedFeed w) t (inUse w)
-
--- ---- what a route may be fed by: its source, its aux, its amount, its output
-
-abbrev pub picked : Pick → Feed
-picked P.Nothing = F.Nothing
-picked (P.Source i) = F.Source i
-
-abbrev pub things : Candidate → List Feed
-things c = F.Source (c .source) ∷ picked (c .aux) ∷ F.Amount (c .slot) ∷ F.Output (c .slot) ∷ []
-
-abbrev pub anyThing : (Feed → Bool) → List Feed → Bool
-anyThing p [] = false
-anyThing p (t ∷ ts) = p t || anyThing p ts
-
-abbrev pub anyCandidate : (Candidate → Bool) → List Candidate → Bool
-anyCandidate p [] = false
-anyCandidate p (c ∷ cs) = p c || anyCandidate p cs
-
-abbrev pub isIt : ℕ → Option ℕ → Bool
-isIt a none = false
-isIt a (some d) = eqb a d
-
--- a is read by a route of b (program.rs 350-357)
-unfoldable pub reads : Wiring → ℕ → ℕ → Bool
-unfolding candidates feederOf
-reads w a b = anyCandidate (λ c. eqb (c .dest) b && anyThing (λ t. isIt a (feederOf w t)) (things c)) (candidates w)
-
--- "a feeds b if a's counted feed is onto a source, aux, amount or output of a route of b" (document 01, The model)
-unfoldable pub countedInto : Wiring → ℕ → ℕ → Bool
-unfolding candidates countedFeed
-countedInto w a b = anyCandidate (λ c. eqb (c .dest) b && anyThing (λ t. sameFeed (countedFeed w a) t) (things c)) (candidates w)
+-- two feeds onto one thing; a destination's own base is no such thing
+abbrev pub sameThing : Base → Base → Bool
+sameThing B.Set B.Set = false
+sameThing B.Set (B.Held j) = false
+sameThing B.Set (B.Amount j) = false
+sameThing B.Set (B.Output j) = false
+sameThing (B.Held i) B.Set = false
+sameThing (B.Held i) (B.Held j) = eqb i j
+sameThing (B.Held i) (B.Amount j) = false
+sameThing (B.Held i) (B.Output j) = false
+sameThing (B.Amount i) B.Set = false
+sameThing (B.Amount i) (B.Held j) = false
+sameThing (B.Amount i) (B.Amount j) = eqb i j
+sameThing (B.Amount i) (B.Output j) = false
+sameThing (B.Output i) B.Set = false
+sameThing (B.Output i) (B.Held j) = false
+sameThing (B.Output i) (B.Amount j) = false
+sameThing (B.Output i) (B.Output j) = eqb i j
 
 -- ---- control or audio (program.rs 327-347)
 
@@ -151,15 +111,15 @@ isAudioKind K.RandomPerRoute = false
 isAudioKind K.VoiceLoad = false
 isAudioKind K.Constant = false
 
-abbrev pub audioPick : Sources → Pick → Bool
-audioPick ss P.Nothing = false
-audioPick ss (P.Source i) = isAudioKind (sourceAt ss i .kind)
+abbrev pub audioAux : Sources → AuxSource → Bool
+audioAux ss X.Nothing = false
+audioAux ss (X.Source i) = isAudioKind (sourceAt ss i .kind)
 
 -- some candidate of d has an Audio source or aux
-unfoldable pub hearsAudio : Wiring → ℕ → Bool
-unfolding candidates
-hearsAudio w d =
-    anyCandidate (λ c. eqb (c .dest) d && (isAudioKind (sourceAt (w .sources) (c .source) .kind) || audioPick (w .sources) (c .aux))) (candidates w)
+unfoldable pub hearsAudio : Sources → List Candidate → ℕ → Bool
+hearsAudio ss [] d = false
+hearsAudio ss (c ∷ cs) d =
+    eqb (c .dest) d && (isAudioKind (sourceAt ss (c .source) .kind) || audioAux ss (c .aux)) || hearsAudio ss cs d
 
 abbrev pub audioRate : Bool → Rate → Bool
 audioRate hears T.Audio = true
@@ -167,15 +127,101 @@ audioRate hears T.Control = false
 audioRate hears T.Adaptive = hears
 
 -- "A counted feed, read or not, makes a destination control"
-abbrev pub unlessFed : Feed → Bool → Bool
-unlessFed F.Nothing audio = audio
-unlessFed (F.Source i) audio = false
-unlessFed (F.Amount n) audio = false
-unlessFed (F.Output n) audio = false
+abbrev pub unlessFed : Base → Bool → Bool
+unlessFed B.Set audio = audio
+unlessFed (B.Held i) audio = false
+unlessFed (B.Amount n) audio = false
+unlessFed (B.Output n) audio = false
+
+-- of the entry e, number d
+abbrev pub audioIn : Sources → List Candidate → ℕ → Dest → Bool
+audioIn ss cs d e = unlessFed (counted ss (e .feed)) (audioRate (hearsAudio ss cs d) (e .rate))
 
 unfoldable pub isAudio : Wiring → ℕ → Bool
-unfolding countedFeed hearsAudio
-isAudio w d = unlessFed (countedFeed w d) (audioRate (hearsAudio w d) (destAt (w .dests) d .rate))
+unfolding candidates hearsAudio
+isAudio w d = audioIn (w .sources) (candidates w) d (destAt (w .dests) d)
+
+-- ---- the feeder that is read: "Of several used destinations feeding one thing, the highest-numbered is read" (program.rs 317-326)
+
+abbrev pub destVoice : Wiring → ℕ → Bool
+destVoice w d = isVoice (destAt (w .dests) d .scope)
+
+-- the entry e, number d, as a destination in use
+abbrev pub usedAs : Sources → List Candidate → ℕ → Dest → Used
+usedAs ss cs d e = record { dest = d; voice = isVoice (e .scope); audio = audioIn ss cs d e; feed = counted ss (e .feed) }
+
+-- the destinations that the candidates name, each once, ascending
+abbrev pub usedIn : Sources → Destinations → List Candidate → List Used
+usedIn ss ds cs = map (λ d. usedAs ss cs d (destAt ds d)) (keep (named cs) (upFrom 0 (destCount ds)))
+
+unfoldable pub usedDests : Wiring → List Used
+unfolding candidates hearsAudio
+usedDests w = usedIn (w .sources) (w .dests) (candidates w)
+
+-- the one found so far, unless a later one of the list feeds the thing
+abbrev pub lastFeeder : Base → Feeder → List Used → Feeder
+lastFeeder t found [] = found
+lastFeeder t found (u ∷ us) = let this = cond (sameThing (u .feed) t) (E.Dest (u .dest) (u .voice)) found in lastFeeder t this us
+
+-- the last of the list that feeds the thing
+abbrev pub feederIn : List Used → Base → Feeder
+feederIn us t = lastFeeder t E.Nothing us
+
+unfoldable pub feederOf : Wiring → Base → Feeder
+unfolding usedDests
+feederOf w t = feederIn (usedDests w) t
+
+-- ---- what a route may be fed by: its source, its aux, its amount, its output
+
+abbrev pub auxThing : AuxSource → Base
+auxThing X.Nothing = B.Set
+auxThing (X.Source i) = B.Held i
+
+-- a candidate, with the feeders that it reads
+abbrev pub readerBy : (Base → Feeder) → Candidate → Reader
+readerBy feeder c =
+    record {
+      candidate = c;
+      source = feeder (B.Held (c .source));
+      aux = feeder (auxThing (c .aux));
+      amount = feeder (B.Amount (c .slot));
+      output = feeder (B.Output (c .slot));
+    }
+
+unfoldable pub readersOf : Wiring → List Reader
+unfolding candidates feederOf
+readersOf w = map (readerBy (feederOf w)) (candidates w)
+
+abbrev pub isIt : ℕ → Feeder → Bool
+isIt a E.Nothing = false
+isIt a (E.Dest d v) = eqb a d
+
+-- a is one of the four
+abbrev pub isAmong : ℕ → Reader → Bool
+isAmong a r = isIt a (r .source) || (isIt a (r .aux) || (isIt a (r .amount) || isIt a (r .output)))
+
+abbrev pub anyReads : ℕ → ℕ → List Reader → Bool
+anyReads a b [] = false
+anyReads a b (r ∷ rs) = eqb (r .candidate .dest) b && isAmong a r || anyReads a b rs
+
+-- a is read by a route of b (program.rs 350-357)
+unfoldable pub reads : Wiring → ℕ → ℕ → Bool
+unfolding readersOf
+reads w a b = anyReads a b (readersOf w)
+
+-- ---- every counted feed: "a feeds b if a's counted feed is onto a source, aux, amount or output of a route of b" (document 01, The model)
+
+abbrev pub isOnto : Base → Candidate → Bool
+isOnto t c =
+    sameThing t (B.Held (c .source)) || (sameThing t (auxThing (c .aux)) || (sameThing t (B.Amount (c .slot)) || sameThing t (B.Output (c .slot))))
+
+abbrev pub anyOnto : Base → ℕ → List Candidate → Bool
+anyOnto t b [] = false
+anyOnto t b (c ∷ cs) = eqb (c .dest) b && isOnto t c || anyOnto t b cs
+
+unfoldable pub countedInto : Wiring → ℕ → ℕ → Bool
+unfolding candidates countedFeed
+countedInto w a b = anyOnto (countedFeed w a) b (candidates w)
 
 -- ---- THE ORDER OF THE PLANS: control destinations by the feeders that are read, then audio destinations by number (program.rs 358-372)
 

@@ -1,7 +1,6 @@
 -- What a route reads and how it goes (document 01, Plan and route; program.rs 409-519). Definitions only.
 use mathlib.Core.Bool.{Bool, true, false, cond, not, _&&_, _||_}
-use mathlib.Core.List.{List}
-use mathlib.Core.Option.{Option, some, none}
+use mathlib.Core.List.{List, map}
 use Prim.Native.Nat.{ℕ}
 use lib.IntN.{pos}
 use lib.ListN.{getD}
@@ -18,7 +17,6 @@ use Rattle.state.specs.declared.Scope.{Scope}
 use Rattle.state.specs.declared.Scope.the-variants as S
 use Rattle.state.specs.declared.Range.{Range}
 use Rattle.state.specs.declared.Range.the-variants as R
-use Rattle.state.specs.declared.Feed.the-variants as F
 use Rattle.state.specs.declared.Pick.{Pick}
 use Rattle.state.specs.declared.Pick.the-variants as P
 use Rattle.state.specs.declared.Aim.the-variants as A
@@ -35,21 +33,30 @@ use Rattle.state.specs.declared.Aux.the-variants as X
 use Rattle.state.specs.declared.Gain.{Gain}
 use Rattle.state.specs.declared.Gain.the-variants as G
 use Rattle.state.specs.declared.Route.{Route}
-use Rattle.state.specs.Registry.{sourceAt, destAt}
-use Rattle.model.specs.Wiring.{Wiring, Candidate}
-use Rattle.model.specs.Feeds.{feederOf, planOrder}
+use Rattle.state.specs.declared.Source.{Source}
+use Rattle.state.specs.declared.Sources.{Sources}
+use Rattle.state.specs.declared.AuxSource.{AuxSource}
+use Rattle.state.specs.declared.AuxSource.the-variants as U
+use Rattle.state.specs.declared.Feeder.{Feeder}
+use Rattle.state.specs.declared.Feeder.the-variants as E
+use Rattle.state.specs.declared.Reader.{Reader}
+use Rattle.state.specs.Registry.{sourceAt}
+use Rattle.model.specs.Feeds.{isVoice}
 
-abbrev pub isVoice : Scope → Bool
-isVoice S.Voice = true
-isVoice S.Global = false
+-- ---- amounts and outputs (program.rs 449-453)
 
--- the place of a destination among the plans
-unfoldable pub planPlace : Wiring → ℕ → ℕ
-unfolding planOrder
-planPlace w d = indexOf d (planOrder w)
+-- a thing at the plan of its feeder: "A fed read has its feeder's scope"; live where nothing feeds it
+abbrev pub linked : List ℕ → Feeder → Gain
+linked os E.Nothing = G.Live
+linked os (E.Dest d v) = G.Fed (indexOf d os) v
 
-abbrev pub destVoice : Wiring → ℕ → Bool
-destVoice w d = isVoice (destAt (w .dests) d .scope)
+abbrev pub voiceGain : Gain → Bool
+voiceGain G.Live = false
+voiceGain (G.Fed e v) = v
+
+abbrev pub liveGain : Gain → Bool
+liveGain G.Live = true
+liveGain (G.Fed e v) = false
 
 -- ---- where an input reads (program.rs 424-446)
 
@@ -67,14 +74,9 @@ unfedRead K.RandomPerRoute i v = D.RouteRandom
 unfedRead K.VoiceLoad i v = D.Held i v
 unfedRead K.Constant i v = D.Constant
 
--- "A fed read has its feeder's scope"
-abbrev pub readBy : Wiring → ℕ → Option ℕ → Read
-readBy w i none = unfedRead (sourceAt (w .sources) i .kind) i (isVoice (sourceAt (w .sources) i .scope))
-readBy w i (some e) = D.Fed (planPlace w e) (destVoice w e)
-
-unfoldable pub readOf : Wiring → ℕ → Read
-unfolding planPlace feederOf
-readOf w i = readBy w i (feederOf w (F.Source i))
+abbrev pub readBy : Source → ℕ → Gain → Read
+readBy s i G.Live = unfedRead (s .kind) i (isVoice (s .scope))
+readBy s i (G.Fed e v) = D.Fed e v
 
 -- program.rs 51-61
 abbrev pub voiceRead : Read → Bool
@@ -83,20 +85,6 @@ voiceRead (D.Held i v) = v
 voiceRead (D.Fed e v) = v
 voiceRead D.Constant = false
 voiceRead D.RouteRandom = true
-
--- ---- amounts and outputs (program.rs 449-453)
-
-abbrev pub gainBy : Wiring → Option ℕ → Gain
-gainBy w none = G.Live
-gainBy w (some e) = G.Fed (planPlace w e) (destVoice w e)
-
-abbrev pub voiceGain : Gain → Bool
-voiceGain G.Live = false
-voiceGain (G.Fed e v) = v
-
-abbrev pub liveGain : Gain → Bool
-liveGain G.Live = true
-liveGain (G.Fed e v) = false
 
 -- ---- curves and slews (program.rs 462-484): "a slew exists" where a rise or a fall is above 0
 
@@ -115,19 +103,14 @@ abbrev pub isBipolar : Range → Bool
 isBipolar R.Unipolar = false
 isBipolar R.Bipolar = true
 
-unfoldable pub inputOf : Wiring → Curve → ℕ → Input
-unfolding readOf slewFor
-inputOf w c i =
-    record {
-      read = readOf w i;
-      bipolar = isBipolar (sourceAt (w .sources) i .range);
-      table = not (isLinear c);
-      slew = slewFor (w .config .«sample_rate») c;
-    }
+-- source i, read by the link, over the curve
+unfoldable pub inputBy : Float → Source → ℕ → Gain → Curve → Input
+unfolding slewFor
+inputBy rate s i g c = record { read = readBy s i g; bipolar = isBipolar (s .range); table = not (isLinear c); slew = slewFor rate c }
 
-abbrev pub auxOf : Wiring → Curve → Pick → Aux
-auxOf w c P.Nothing = X.Missing
-auxOf w c (P.Source i) = X.With (inputOf w c i)
+abbrev pub auxBy : Float → Sources → AuxSource → Gain → Curve → Aux
+auxBy rate ss U.Nothing g c = X.Missing
+auxBy rate ss (U.Source i) g c = X.With (inputBy rate (sourceAt ss i) i g c)
 
 abbrev pub voiceAux : Aux → Bool
 voiceAux X.Missing = false
@@ -173,34 +156,37 @@ noSlot =
       bypass = false;
     }
 
-abbrev pub slotAt : Wiring → ℕ → Slot
-slotAt w n = getD (w .matrix .slot) n noSlot
-
 -- plain: a per-voice source into a per-voice destination, uncurved, unslewed, without aux, at the slot's live gains (program.rs 497-503)
 abbrev pub simpleRoute : Bool → Input → Aux → Gain → Gain → Bool
 simpleRoute dv i x a o = voiceRead (i .read) && (dv && (not (i .table) && (freeSlew (i .slew) && (noAux x && (liveGain a && liveGain o)))))
 
--- by its inputs and gains
-abbrev pub routeBy : Wiring → Candidate → Input → Aux → Gain → Gain → Route
-routeBy w c i x a o =
+-- by its inputs and gains; dv: its destination is per voice
+unfoldable pub routeBy : ℕ → Slot → Bool → Input → Aux → Gain → Gain → Route
+routeBy n s dv i x a o =
     record {
-      slot = c .slot;
+      slot = n;
       source = i;
       aux = x;
-      «aux_invert» = slotAt w (c .slot) .«aux_invert»;
-      bipolar = twoWay (slotAt w (c .slot) .polarity);
+      «aux_invert» = s .«aux_invert»;
+      bipolar = twoWay (s .polarity);
       amount = a;
       output = o;
       voice = voiceRead (i .read) || (voiceAux x || (voiceGain a || voiceGain o));
-      scale = scaleOf (i .bipolar) (twoWay (slotAt w (c .slot) .polarity));
-      offset = offsetOf (i .bipolar) (twoWay (slotAt w (c .slot) .polarity));
-      simple = simpleRoute (destVoice w (c .dest)) i x a o;
+      scale = scaleOf (i .bipolar) (twoWay (s .polarity));
+      offset = offsetOf (i .bipolar) (twoWay (s .polarity));
+      simple = simpleRoute dv i x a o;
     }
 
-unfoldable pub routeOf : Wiring → Candidate → Route
-unfolding inputOf feederOf
-routeOf w c =
-    routeBy w c (inputOf w (slotAt w (c .slot) .«source_curve») (c .source))
-    (auxOf w (slotAt w (c .slot) .«aux_curve») (c .aux))
-    (gainBy w (feederOf w (F.Amount (c .slot))))
-    (gainBy w (feederOf w (F.Output (c .slot))))
+-- in the order os of plans
+unfoldable pub routeIn : Float → Sources → List ℕ → Slot → Bool → Reader → Route
+unfolding inputBy routeBy
+routeIn rate ss os s dv r =
+    routeBy (r .candidate .slot) s dv
+    (inputBy rate (sourceAt ss (r .candidate .source)) (r .candidate .source) (linked os (r .source)) (s .«source_curve»))
+    (auxBy rate ss (r .candidate .aux) (linked os (r .aux)) (s .«aux_curve»))
+    (linked os (r .amount))
+    (linked os (r .output))
+
+-- the routes of readers of one destination, per voice or not
+abbrev pub routesIn : Float → Sources → List ℕ → List Slot → Bool → List Reader → List Route
+routesIn rate ss os slots dv rs = map (λ r. routeIn rate ss os (getD slots (r .candidate .slot) noSlot) dv r) rs

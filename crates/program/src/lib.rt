@@ -1,7 +1,29 @@
 // Compiled programs, and what they are sized for. Every `pub fn` is a public call.
 ghost use mathlib.Core.Path.{_≡_};
+ghost use mathlib.Core.Bool.{_&&_, _||_};
+ghost use Prim.Native.Nat.{_≤_};
+ghost use lib.Dec.{ltb};
+ghost use lib.ListN.{length};
+ghost use Rattle.config.specs.Configuration.{configCode};
+ghost use Rattle.number.specs.Number.{one32};
+ghost use Rattle.tables.specs.Tables.{tablesNeed};
+ghost use Rattle.model.specs.Compile.{emptyOf, emptyProgram, numbersAllowed, zeroed, compile};
 ghost use Rattle.program.specs.Sizes.{strideCall, maxChunksCall};
+ghost use Rattle.program.specs.Readers.{routeCount, planCount, planAt, routeAt, skipCount, skippedAt, rateBy, rateOf, configOf};
+ghost use Rattle.program.specs.Steps.{earlyCode, heldValues, heldAudio, copied};
 use config::Config;
+use config::SLOTS;
+use state::Compiled;
+use state::Destinations;
+use state::Gains;
+use state::Matrix;
+use state::NoteCurve;
+use state::Plan;
+use state::Program;
+use state::Route;
+use state::Skipped;
+use state::Sources;
+use tables::TABLES;
 
 // A number, or the row by which it is refused, with 0.
 pub struct Count {
@@ -37,4 +59,302 @@ pub fn max_chunks(config: Config) -> Count
         code: 0,
         n: config::most_chunks(frames),
     }
+}
+
+// ---- making programs
+
+// the program with no plans and no routes
+fn empty_of(config: Config) -> Program
+    ensures { λ r. ⌜ r ≡ emptyOf config ⌝ }
+{
+    let plans = filled::no_plans();
+    let plan = plans.at;
+    let routes = filled::no_routes();
+    let route = routes.at;
+    let skips = filled::no_skips();
+    let skipped = skips.at;
+    let amount = [0.0; SLOTS];
+    let output = [1.0; SLOTS];
+    let gains = Gains { amount, output };
+    Program {
+        config,
+        sources: 0,
+        dests: 0,
+        plans: 0,
+        control: 0,
+        routes: 0,
+        plan,
+        route,
+        gains,
+        velocity: NoteCurve::Linear,
+        key: NoteCurve::Linear,
+        glide: false,
+        velocity_legato: false,
+        tabled: false,
+        skips: 0,
+        skipped,
+    }
+}
+
+// a refusal, with the empty program for rate 1, 0 frames, 0 voices
+fn refused(code: u8) -> Compiled
+    ensures { λ r. ⌜ r ≡ record { code = code; program = emptyOf (record { «sample_rate» = one32; «max_frames» = 0; voices = 0 }) } ⌝ }
+{
+    let none = Config {
+        sample_rate: 1.0,
+        max_frames: 0,
+        voices: 0,
+    };
+    Compiled {
+        code,
+        program: empty_of(none),
+    }
+}
+
+fn config_code(config: Config) -> u8
+    ensures { λ r. ⌜ r ≡ configCode (config .«sample_rate») (config .«max_frames») (config .voices) ⌝ }
+{
+    config::code(config.sample_rate, config.max_frames, config.voices)
+}
+
+// A program with no routes.
+pub fn empty(config: Config) -> Compiled
+    ensures { λ r. ⌜ r ≡ emptyProgram config ⌝ }
+{
+    let code = config_code(config);
+    if code != 0 {
+        return refused(code);
+    }
+    Compiled {
+        code: 0,
+        program: empty_of(config),
+    }
+}
+
+// row 6 of the matrix and its tables
+fn numbers_allowed(matrix: Matrix, tables: &[f32]) -> bool
+    ensures { λ r. ⌜ r ≡ numbersAllowed matrix (now (tables .entry)) ⌝ }
+{
+    let slot = matrix.slot;
+    if !slot::all_finite(slot) {
+        return false;
+    }
+    tables::named_allowed(matrix, tables)
+}
+
+// rows 6 and 13
+fn early_code(matrix: Matrix, tables: &[f32], config: Config) -> u8
+    ensures { λ r. ⌜ r ≡ earlyCode matrix (now (tables .entry)) config ⌝ }
+{
+    let numbers = judge::row(!numbers_allowed(matrix, tables), 6);
+    let range = config_code(config);
+    judge::first(numbers, range)
+}
+
+// row 14 of the tables, by their lengths
+fn tables_short(named: bool, from: usize, to: usize) -> bool
+    ensures { λ r. ⌜ r ≡ named && (ltb from tablesNeed || ltb to tablesNeed) ⌝ }
+{
+    if !named {
+        return false;
+    }
+    if from < TABLES {
+        return true;
+    }
+    to < TABLES
+}
+
+// row 14 of the program's own memories, by their lengths
+fn memory_short(program: Program, values: usize, audio: usize) -> bool
+    ensures { λ r. ⌜ r ≡ ltb values (heldValues program) || ltb audio (heldAudio program) ⌝ }
+{
+    if values < values_need(program) {
+        return true;
+    }
+    audio < audio_need(program)
+}
+
+// what the program's values take
+fn values_need(program: Program) -> usize
+    ensures { λ r. ⌜ r ≡ heldValues program ⌝ }
+{
+    let config = program.config;
+    need::values(
+        config.voices,
+        config.max_frames,
+        program.plans,
+        program.routes,
+    )
+}
+
+// what its audio rows take
+fn audio_need(program: Program) -> usize
+    ensures { λ r. ⌜ r ≡ heldAudio program ⌝ }
+{
+    let config = program.config;
+    need::audio(config.voices, config.max_frames, program.plans)
+}
+
+// the first n numbers become 0
+fn zero(mem: &mut [f32], n: usize)
+    requires { ⌜ n ≤ length (now mem) ⌝ }
+    ensures { λ _. ⌜ now (mem .exit) ≡ zeroed n (now (mem .entry)) ⌝ }
+{
+    list::fill_part(mem, 0, n, 0.0);
+}
+
+// the matrix's tables into the program's, where a table is named and both memories are long enough
+fn copy_tables(named: bool, tables: &mut [f32], from: &[f32])
+    ensures { λ _. ⌜ now (tables .exit) ≡ copied named (now (tables .entry)) (now (from .entry)) ⌝ }
+{
+    if !named {
+        return;
+    }
+    if tables.len() < TABLES {
+        return;
+    }
+    if from.len() < TABLES {
+        return;
+    }
+    tables::write_tables(tables, from);
+}
+
+// The program of matrix, registries and configuration, its memories set to 0 and its tables copied.
+pub fn compile(
+    matrix: Matrix,
+    matrix_tables: &[f32],
+    sources: Sources,
+    dests: Destinations,
+    config: Config,
+    values: &mut [f32],
+    audio: &mut [f32],
+    tables: &mut [f32],
+) -> Compiled
+    ensures answer { λ r. ⌜ r ≡ compile (record { matrix = matrix; sources = sources; dests = dests; config = config }) (now («matrix_tables» .entry)) (record { values = now (values .entry); audio = now (audio .entry); tables = now (tables .entry) }) .answer ⌝ }
+    ensures lent { λ _. ⌜ record { values = now (values .exit); audio = now (audio .exit); tables = now (tables .exit) } ≡ compile (record { matrix = matrix; sources = sources; dests = dests; config = config }) (now («matrix_tables» .entry)) (record { values = now (values .entry); audio = now (audio .entry); tables = now (tables .entry) }) .lent ⌝ }
+{
+    let early = early_code(matrix, matrix_tables, config);
+    if early != 0 {
+        return refused(early);
+    }
+    let program = compiler::compiled(matrix, sources, dests, config);
+    if tables_short(program.tabled, matrix_tables.len(), tables.len()) {
+        return refused(14);
+    }
+    if memory_short(program, values.len(), audio.len()) {
+        return refused(14);
+    }
+    zero(values, values_need(program));
+    zero(audio, audio_need(program));
+    copy_tables(program.tabled, tables, matrix_tables);
+    Compiled { code: 0, program }
+}
+
+// ---- what a program tells of itself
+
+pub enum PlanRead {
+    Nothing,
+    Plan(Plan),
+}
+
+pub enum RouteRead {
+    Nothing,
+    Route(Route),
+}
+
+pub enum SkippedRead {
+    Nothing,
+    Skipped(Skipped),
+}
+
+pub enum RateRead {
+    Nothing,
+    Audio,
+    Control,
+}
+
+// how many routes it runs
+pub fn route_count(program: Program) -> usize
+    ensures { λ r. ⌜ r ≡ routeCount program ⌝ }
+{
+    filled::held(program.routes)
+}
+
+// how many plans it has
+pub fn plan_count(program: Program) -> usize
+    ensures { λ r. ⌜ r ≡ planCount program ⌝ }
+{
+    filled::held(program.plans)
+}
+
+// plan i
+pub fn plan(program: Program, i: usize) -> PlanRead
+    ensures { λ r. ⌜ r ≡ planAt program i ⌝ }
+{
+    if filled::held(program.plans) <= i {
+        return PlanRead::Nothing;
+    }
+    let p = program.plan[i];
+    PlanRead::Plan(p)
+}
+
+// route i
+pub fn route(program: Program, i: usize) -> RouteRead
+    ensures { λ r. ⌜ r ≡ routeAt program i ⌝ }
+{
+    if filled::held(program.routes) <= i {
+        return RouteRead::Nothing;
+    }
+    let x = program.route[i];
+    RouteRead::Route(x)
+}
+
+// how many slots were left out with a reason
+pub fn skip_count(program: Program) -> usize
+    ensures { λ r. ⌜ r ≡ skipCount program ⌝ }
+{
+    filled::held(program.skips)
+}
+
+// the i-th slot left out, and its reason
+pub fn skipped(program: Program, i: usize) -> SkippedRead
+    ensures { λ r. ⌜ r ≡ skippedAt program i ⌝ }
+{
+    if filled::held(program.skips) <= i {
+        return SkippedRead::Nothing;
+    }
+    let s = program.skipped[i];
+    SkippedRead::Skipped(s)
+}
+
+fn rate_by(audio: bool) -> RateRead
+    ensures { λ r. ⌜ r ≡ rateBy audio ⌝ }
+{
+    if audio {
+        return RateRead::Audio;
+    }
+    RateRead::Control
+}
+
+// the rate of the plan of dest
+pub fn rate(program: Program, dest: usize) -> RateRead
+    ensures { λ r. ⌜ r ≡ rateOf program dest ⌝ }
+{
+    let n = filled::held(program.plans);
+    let mut i = 0;
+    while i < n {
+        let p = program.plan[i];
+        if p.dest as usize == dest {
+            return rate_by(p.audio);
+        }
+        i += 1;
+    }
+    RateRead::Nothing
+}
+
+// what it was compiled for
+pub fn config(program: Program) -> Config
+    ensures { λ r. ⌜ r ≡ configOf program ⌝ }
+{
+    program.config
 }

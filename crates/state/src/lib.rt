@@ -243,3 +243,62 @@ pub struct Program {
     pub skips: usize,
     pub skipped: [Skipped; SLOTS],
 }
+
+// A program, or the row by which compiling is refused.
+pub struct Compiled {
+    pub code: u8,
+    pub program: Program,
+}
+
+// ---- compiling (program.rs 272-372; document 01, Plan and route)
+
+// What a program is compiled from.
+pub struct Wiring {
+    pub matrix: Matrix,
+    pub sources: Sources,
+    pub dests: Destinations,
+    pub config: Config,
+}
+
+pub enum AuxSource {
+    Nothing,
+    Source(u8),
+}
+
+// A slot that becomes a route.
+pub struct Candidate {
+    pub slot: u8,
+    pub source: u8,
+    pub aux: AuxSource,
+    pub dest: u16,
+}
+
+// What becomes of a slot.
+pub enum Verdict {
+    Over,
+    LeftOut(Reason),
+    Taken(Candidate),
+}
+
+// A destination in use: its scope, its rate and its counted feed.
+pub struct Used {
+    pub dest: u16,
+    pub voice: bool,
+    pub audio: bool,
+    pub feed: Base,
+}
+
+// The destination in use that feeds a thing and is read.
+pub enum Feeder {
+    Nothing,
+    Dest { dest: u16, voice: bool },
+}
+
+// A candidate and who feeds its source, its aux, its amount and its output.
+pub struct Reader {
+    pub candidate: Candidate,
+    pub source: Feeder,
+    pub aux: Feeder,
+    pub amount: Feeder,
+    pub output: Feeder,
+}

@@ -1,0 +1,218 @@
+// A program from what it is compiled from (document 01, Plan and route; program.rs 296-558). The definitions are in model's specs/Plans.
+ghost use mathlib.Core.Path.{_≡_};
+ghost use mathlib.Core.List.{[], map};
+ghost use Rattle.state.specs.declared.Slot.{Slot};
+ghost use Rattle.filled.specs.Filled.{candidatesIn, readersIn, numbersIn, plansOf, routesOf};
+ghost use Rattle.state.specs.Registry.{destAt};
+ghost use Rattle.model.specs.Feeds.{isVoice, counted, audioIn};
+ghost use Rattle.model.specs.Routes.{routesIn};
+ghost use Rattle.model.specs.Plans.{readersInto, planBy, plansIn, routesOver, gainsOf, compiled};
+ghost use Rattle.routing.specs.Added.{routesAdded};
+use config::Config;
+use config::SLOTS;
+use filled::Candidates;
+use filled::Numbers;
+use filled::Plans;
+use filled::Readers;
+use filled::Routes;
+use state::Base;
+use state::Dest;
+use state::Destinations;
+use state::Gains;
+use state::Matrix;
+use state::Plan;
+use state::Program;
+use state::Slot;
+use state::Sources;
+
+// ---- plans
+
+fn plan_by(d: u16, entry: Dest, base: Base, audio: bool, first: usize, count: usize) -> Plan
+    ensures { λ r. ⌜ r ≡ planBy d entry base audio first count ⌝ }
+{
+    let scope = entry.scope;
+    Plan {
+        dest: d,
+        voice: usage::is_voice(scope),
+        audio,
+        min: entry.min,
+        max: entry.max,
+        base,
+        first,
+        count,
+    }
+}
+
+// the plan of the entry, number d
+fn plan_of(
+    sources: Sources,
+    candidates: Candidates,
+    d: u16,
+    entry: Dest,
+    first: usize,
+    count: usize,
+) -> Plan
+    ensures { λ r. ⌜ r ≡ planBy d entry (counted sources (entry .feed)) (audioIn sources (candidatesIn candidates) d entry) first count ⌝ }
+{
+    let feed = entry.feed;
+    let base = usage::counted(sources, feed);
+    let audio = usage::is_audio(sources, candidates, d, entry);
+    plan_by(d, entry, base, audio, first, count)
+}
+
+// the plans in their order
+fn plans(
+    sources: Sources,
+    dests: Destinations,
+    candidates: Candidates,
+    readers: Readers,
+    order: Numbers,
+) -> Plans
+    ensures { λ r. ⌜ r ≡ plansOf (plansIn sources dests (candidatesIn candidates) (readersIn readers) 0 (numbersIn order)) ⌝ }
+{
+    let n = filled::held(order.count);
+    let mut out = filled::no_plans();
+    let mut first = 0;
+    let mut k = 0;
+    while k < n {
+        let d = order.at[k];
+        let e = registry::dest_at(dests, d as usize);
+        let count = routing::route_count(readers, d);
+        let next = filled::add_plan(out, plan_of(sources, candidates, d, e, first, count));
+        out = next;
+        first += count;
+        k += 1;
+    }
+    out
+}
+
+// ---- routes
+
+// the routes so far, and those of d
+fn with_routes(
+    list: Routes,
+    rate: f32,
+    sources: Sources,
+    dests: Destinations,
+    slot: [Slot; SLOTS],
+    readers: Readers,
+    order: Numbers,
+    d: u16,
+) -> Routes
+    ensures { λ r. ⌜ r ≡ routesAdded list (routesIn rate sources (numbersIn order) slot (isVoice (destAt dests d .scope)) (readersInto d (readersIn readers))) ⌝ }
+{
+    let e = registry::dest_at(dests, d as usize);
+    let scope = e.scope;
+    routing::with_routes(
+        list,
+        rate,
+        sources,
+        order,
+        slot,
+        usage::is_voice(scope),
+        d,
+        readers,
+    )
+}
+
+// the routes, plan by plan
+fn routes(
+    rate: f32,
+    sources: Sources,
+    dests: Destinations,
+    slot: [Slot; SLOTS],
+    readers: Readers,
+    order: Numbers,
+) -> Routes
+    ensures { λ r. ⌜ r ≡ routesAdded (routesOf []) (routesOver rate sources dests slot (readersIn readers) (numbersIn order) (numbersIn order)) ⌝ }
+{
+    let n = filled::held(order.count);
+    let mut out = filled::no_routes();
+    let mut k = 0;
+    while k < n {
+        let d = order.at[k];
+        let next = with_routes(out, rate, sources, dests, slot, readers, order, d);
+        out = next;
+        k += 1;
+    }
+    out
+}
+
+// ---- gains
+
+fn amounts(slot: [Slot; SLOTS]) -> [f32; SLOTS]
+    ensures { λ r. ⌜ r ≡ map (λ (s : Slot). s .amount) slot ⌝ }
+{
+    let mut out = [0.0; SLOTS];
+    let mut n = 0;
+    while n < SLOTS {
+        let s = slot[n];
+        out[n] = s.amount;
+        n += 1;
+    }
+    out
+}
+
+fn outputs(slot: [Slot; SLOTS]) -> [f32; SLOTS]
+    ensures { λ r. ⌜ r ≡ map (λ (s : Slot). s .output) slot ⌝ }
+{
+    let mut out = [0.0; SLOTS];
+    let mut n = 0;
+    while n < SLOTS {
+        let s = slot[n];
+        out[n] = s.output;
+        n += 1;
+    }
+    out
+}
+
+// all 64 amounts and outputs
+fn gains(slot: [Slot; SLOTS]) -> Gains
+    ensures { λ r. ⌜ r ≡ gainsOf slot ⌝ }
+{
+    let amount = amounts(slot);
+    let output = outputs(slot);
+    Gains { amount, output }
+}
+
+// ---- the program
+
+// the program of matrix, registries and configuration
+pub fn compiled(matrix: Matrix, sources: Sources, dests: Destinations, config: Config) -> Program
+    ensures { λ r. ⌜ r ≡ compiled (record { matrix = matrix; sources = sources; dests = dests; config = config }) ⌝ }
+{
+    let slot = matrix.slot;
+    let verdict = candidate::verdicts(sources, dests, slot);
+    let candidates = candidate::candidates(verdict);
+    let used = usage::used_dests(sources, dests, candidates);
+    let readers = usage::readers(used, candidates);
+    let planned = planning::plan_order(used, readers);
+    let order = planned.order;
+    let plan_list = plans(sources, dests, candidates, readers, order);
+    let plan = plan_list.at;
+    let route_list = routes(config.sample_rate, sources, dests, slot, readers, order);
+    let route = route_list.at;
+    let left_out = candidate::skips(verdict);
+    let skipped = left_out.at;
+    let gains = gains(slot);
+    let velocity = matrix.velocity;
+    let key = matrix.key;
+    Program {
+        config,
+        sources: registry::source_count(sources),
+        dests: registry::dest_count(dests),
+        plans: order.count,
+        control: planned.control,
+        routes: candidates.count,
+        plan,
+        route,
+        gains,
+        velocity,
+        key,
+        glide: matrix.glide,
+        velocity_legato: matrix.velocity_legato,
+        tabled: tables::names_table(matrix),
+        skips: left_out.count,
+        skipped,
+    }
+}

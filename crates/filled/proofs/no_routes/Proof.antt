@@ -1,0 +1,14 @@
+-- `filled::no_routes` meets its contract.
+use lib.Ieee.{ofBits}
+use Rattle.config.specs.Sizes.{slots}
+use Rattle.list.proofs.Padded.{padded-none}
+use Rattle.filled.specs.Filled.{routesOf, noRoute}
+use Rattle.filled.proofs.no_routes.Statement.{statement}
+use Rattle.filled.proofs.no_routes.Tie as tie
+
+returns : tie.Need-returns
+unfolding routesOf ofBits
+returns c = simp (padded-none slots noRoute)
+
+pub no-routes-spec : {M : Type 1} → statement M
+no-routes-spec = tie.close (tie.spec returns)

@@ -1,0 +1,73 @@
+-- Laws that proofs cite in place of the definitions' text. Assumes nothing.
+use mathlib.Core.Path.{_≡_, refl, ap, _∙_}
+use mathlib.Core.Bool.{Bool, true, false}
+use mathlib.Core.List.{List, _∷_, List·Memᴰ·head, List·Memᴰ·tail}
+use Prim.Native.Nat.{ℕ, _≤_, _<_}
+use lib.Dec.{eqb}
+use lib.ListN.{length}
+use lib.Seq.{set-out}
+use lib.Ieee.{Float}
+use borrow.Author.Tests.{not-false, ltb-false, leb-false, eqb-true, ne-eqb, lt-ltb, le-ltb}
+use Rattle.judge.specs.Judge.{judged}
+use Rattle.judge.proofs.Laws.{judged-accepted}
+use Rattle.config.specs.Sizes.{slots}
+use Rattle.table.specs.Table.{points}
+use Rattle.state.specs.declared.Slot.{Slot}
+use Rattle.state.specs.declared.Matrix.{Matrix}
+use Rattle.tables.specs.Tables.{tablesNeed, namesTable}
+use Rattle.sorting.specs.Moved.{slotsAt, movedTables}
+use Rattle.slot.specs.Matrix.{withSlots, withSlot}
+use Rattle.tables.specs.Rows.{tableRows}
+use Rattle.matrix.specs.Edits.{slotRow, answered, tabled, sortedFrom, sortSlots}
+use Rattle.matrix.specs.declared.SortBy.{SortBy}
+use Rattle.matrix.specs.declared.Edited.{Edited}
+
+-- ---- slots of a matrix
+
+-- past the last slot there is nothing to replace
+pub with-slot-past : (m : Matrix) (n : ℕ) (s : Slot) → length (m .slot) ≤ n → withSlot m n s ≡ m
+unfolding withSlot withSlots
+with-slot-past m n s h = ap (withSlots m) (set-out (m .slot) n s h)
+
+-- ---- rows that are accepted
+
+pub table-rows-accepted : (b : Bool) (tables t : List Float) → judged (tableRows b tables t) ≡ 0 → (tablesNeed ≤ length tables) × (length t ≡ points)
+table-rows-accepted b tables t h =
+    let none = judged-accepted (tableRows b tables t) tt h in
+    (ltb-false _ _ (none _ (List·Memᴰ·tail (List·Memᴰ·head refl))), eqb-true _ _ (not-false _ (none _ (List·Memᴰ·tail (List·Memᴰ·tail (List·Memᴰ·head refl))))))
+
+pub curve-rows-accepted : (n : ℕ) (b : Bool) (tables t : List Float) → judged (slotRow n ∷ tableRows b tables t) ≡ 0 → (n < slots) × (tablesNeed ≤ length tables) × (length t ≡ points)
+curve-rows-accepted n b tables t h =
+    let none = judged-accepted (slotRow n ∷ tableRows b tables t) tt h in
+    (leb-false _ _ (none _ (List·Memᴰ·head refl)), ltb-false _ _ (none _ (List·Memᴰ·tail (List·Memᴰ·tail (List·Memᴰ·head refl)))), eqb-true _ _ (not-false _ (none _ (List·Memᴰ·tail (List·Memᴰ·tail (List·Memᴰ·tail (List·Memᴰ·head refl)))))))
+
+-- ---- answers with tables
+
+pub tabled-refused : (code k : ℕ) (m next : Matrix) (t w : List Float) → k ≡ code → (k ≡ 0 → ⊥) → (_≡_ {A = Edited} (record { code = k; matrix = m }) (tabled code m next t w .answer)) × (t ≡ tabled code m next t w .tables)
+unfolding tabled answered
+tabled-refused code k m next t w e ne =
+    let no : eqb code 0 ≡ false = ne-eqb code 0 (λ z. ne (e ∙ z)) in
+    (simp (no, e), simp no)
+
+pub tabled-accepted : (code : ℕ) (m next : Matrix) (t w : List Float) → code ≡ 0 → (answered 0 m next ≡ tabled code m next t w .answer) × (w ≡ tabled code m next t w .tables)
+unfolding tabled answered
+tabled-accepted code m next t w e = (simp e, simp e)
+
+-- ---- sorting
+
+-- no table is named: none is lent
+pub sort-plain : (m next : Matrix) (t : List Float) (by : SortBy) (places : List ℕ) → namesTable m ≡ false → places ≡ sortedFrom m by
+    → next ≡ withSlots m (slotsAt places (m .slot)) → (_≡_ {A = Edited} (record { code = 0; matrix = next }) (sortSlots m t by .answer)) × (t ≡ sortSlots m t by .tables)
+unfolding sortSlots tabled answered judged
+sort-plain m next t by places un p e = (simp (un, e, p), simp un)
+
+pub sort-short : (m : Matrix) (t : List Float) (by : SortBy) → namesTable m ≡ true → length t < tablesNeed
+    → (_≡_ {A = Edited} (record { code = 14; matrix = m }) (sortSlots m t by .answer)) × (t ≡ sortSlots m t by .tables)
+unfolding sortSlots tabled answered judged
+sort-short m t by named h = (simp (named, lt-ltb _ _ h), simp (named, lt-ltb _ _ h))
+
+pub sort-named : (m next : Matrix) (t : List Float) (by : SortBy) (places : List ℕ) → namesTable m ≡ true → tablesNeed ≤ length t → places ≡ sortedFrom m by
+    → next ≡ withSlots m (slotsAt places (m .slot))
+    → (_≡_ {A = Edited} (record { code = 0; matrix = next }) (sortSlots m t by .answer)) × (movedTables places t ≡ sortSlots m t by .tables)
+unfolding sortSlots tabled answered judged
+sort-named m next t by places named h p e = (simp (named, le-ltb _ _ h, e, p), simp (named, le-ltb _ _ h, p))

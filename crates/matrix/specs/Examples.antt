@@ -1,0 +1,78 @@
+-- The definitions, computed.
+use mathlib.Core.Path.{_≡_, refl}
+use mathlib.Core.Bool.{true, false}
+use mathlib.Core.List.{[], _∷_}
+use lib.IntN.{negsuc}
+use lib.ListN.{replicate}
+use lib.Ieee.{nan, inf, fin, lt, le}
+use Rattle.judge.specs.Judge.{judged}
+use Rattle.number.specs.Number.{zero32, one32, finite, clampTo}
+use Rattle.table.specs.Table.{allowed, allAllowed}
+use Rattle.table.specs.Curve.{secondsFinite}
+use Rattle.table.specs.declared.Curve.the-variants as C
+use Rattle.state.specs.declared.Target.the-variants as T
+use Rattle.state.specs.declared.Polarity.the-variants as L
+use Rattle.state.specs.declared.NoteCurve.the-variants as N
+use Rattle.state.specs.declared.Slot.{Slot}
+use Rattle.state.specs.declared.Matrix.{Matrix}
+use Rattle.slot.specs.Slots.{emptySlot, isEmptySlot, firstEmpty, routeSlot, keptAmount, cleared, countAims, numbersFinite, withAmount, withSourceCurve}
+use Rattle.tables.specs.Tables.{slotNames, anyNames, namesTable}
+use Rattle.sorting.specs.Keys.{keyOf}
+use Rattle.sorting.specs.Order.{before, countBefore, rankOf, ranks, placesOf, sortedPlaces}
+use Rattle.sorting.specs.Moved.{slotsAt}
+use Rattle.slot.specs.Matrix.{newMatrix, slotOf, withSlots, withSlot, withVelocity}
+use Rattle.tables.specs.Rows.{curveAllowed}
+use Rattle.matrix.specs.Edits.{answered, edited, placed, tabled, slotAt, setSlot, addRoute, setSlotAmount, removeDestination, setCurve, sortedFrom, sortSlots, loadMatrix}
+use Rattle.matrix.specs.declared.CurveSlot.the-variants as W
+use Rattle.matrix.specs.declared.Place.the-variants as P
+use Rattle.matrix.specs.declared.SortBy.the-variants as S
+
+-- slot 63 is there; 64 is row 5, with the empty slot
+slots-read : (slotAt newMatrix 63 ≡ record { code = 0; slot = emptySlot }) × (slotAt newMatrix 64 ≡ record { code = 5; slot = emptySlot })
+unfolding slotAt slotOf newMatrix judged
+slots-read = (refl, refl)
+
+-- a NaN is row 6, past the last slot row 5
+codes : (setSlotAmount newMatrix 63 nan .code ≡ 6) × (setSlotAmount newMatrix 64 nan .code ≡ 5) × (setSlotAmount newMatrix 63 one32 .code ≡ 0) × (setSlotAmount newMatrix 0 (inf true) .code ≡ 6)
+unfolding setSlotAmount edited answered judged finite
+codes = (refl, refl, refl, refl)
+
+-- a whole slot is kept as it is: 2.5 stays; seconds that are not finite are row 6
+whole-slot : (slotOf (setSlot newMatrix 3 (withAmount (fin false 5 (negsuc 0)) emptySlot) .matrix) 3 .amount ≡ fin false 5 (negsuc 0)) × (setSlot newMatrix 3 (withSourceCurve (C.Table nan zero32) emptySlot) .code ≡ 6)
+unfolding setSlot edited answered judged numbersFinite finite secondsFinite slotOf withSlot withSlots withAmount withSourceCurve newMatrix emptySlot
+whole-slot = (refl, refl)
+
+-- ---- adding and removing
+
+route : Slot
+route = routeSlot 5 (T.Param 7) one32 L.Bipolar
+
+full : Matrix
+full = withSlots newMatrix (replicate 64 route)
+
+-- the first empty slot; a full matrix is no number; a NaN is row 6
+adding : (addRoute newMatrix 5 (T.Param 7) (fin false 3 (negsuc 0)) L.Bipolar ≡ record { code = 0; place = P.At 0; matrix = withSlot newMatrix 0 route }) × (addRoute (withSlot newMatrix 0 route) 5 (T.Param 7) one32 L.Bipolar .place ≡ P.At 1) × (addRoute full 5 (T.Param 7) one32 L.Bipolar ≡ record { code = 0; place = P.Full; matrix = full }) × (addRoute full 5 (T.Param 7) nan L.Bipolar ≡ record { code = 6; place = P.Refused; matrix = full })
+unfolding addRoute placed judged finite keptAmount clampTo lt firstEmpty isEmptySlot newMatrix withSlot withSlots emptySlot routeSlot route full
+adding = (refl, refl, refl, refl)
+
+-- every slot with that destination becomes empty; an LFO bus is no parameter
+removing : (removeDestination full (T.Param 7) ≡ record { count = 64; matrix = newMatrix }) × (removeDestination full (T.LfoBus 7 0) ≡ record { count = 0; matrix = full })
+unfolding removeDestination countAims cleared newMatrix withSlots emptySlot routeSlot route full
+removing = (refl, refl)
+
+-- ---- tables
+
+-- an empty table, with no memory: row 5 past the last slot, row 14 before 15; a NaN in it is row 6
+table-codes : (setCurve newMatrix [] 64 W.Source [] zero32 zero32 .answer .code ≡ 5) × (setCurve newMatrix [] 63 W.Aux [] zero32 zero32 .answer .code ≡ 14) × (setCurve newMatrix [] 63 W.Aux (nan ∷ []) zero32 zero32 .answer .code ≡ 6) × (setCurve newMatrix [] 63 W.Aux [] nan zero32 .answer .code ≡ 6)
+unfolding setCurve tabled answered judged curveAllowed allAllowed allowed finite le
+table-codes = (refl, refl, refl, refl)
+
+-- a matrix that names no table asks for none
+loading : (loadMatrix full [] newMatrix [] .answer ≡ record { code = 0; matrix = newMatrix }) × (loadMatrix full [] (withVelocity newMatrix N.Table) [] .answer ≡ record { code = 14; matrix = full })
+unfolding loadMatrix tabled answered judged namesTable anyNames slotNames newMatrix withVelocity emptySlot withSlots route routeSlot full
+loading = (refl, refl)
+
+-- by source: the empty slot last; a matrix that names a table asks for them
+sorting-two : (sortSlots (withSlots newMatrix (emptySlot ∷ route ∷ [])) [] S.Source .answer ≡ record { code = 0; matrix = withSlots newMatrix (route ∷ emptySlot ∷ []) }) × (sortSlots (withVelocity newMatrix N.Table) [] S.Destination .answer ≡ record { code = 14; matrix = withVelocity newMatrix N.Table })
+unfolding sortSlots sortedFrom sortedPlaces placesOf ranks rankOf countBefore before keyOf slotsAt tabled answered judged namesTable anyNames slotNames isEmptySlot newMatrix withVelocity emptySlot withSlots route routeSlot
+sorting-two = (refl, refl)

@@ -1,0 +1,3 @@
+pub mod Which
+pub mod Edits
+pub mod Examples

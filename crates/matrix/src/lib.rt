@@ -1,0 +1,477 @@
+// The matrix as data: 64 slots, their edits, and the tables lent with them. The definitions that contracts cite are in specs/.
+ghost use mathlib.Core.Path.{_≡_};
+ghost use mathlib.Core.List.{[], _∷_};
+ghost use Prim.Native.Nat.{_<_};
+ghost use Rattle.judge.specs.Judge.{judged};
+ghost use Rattle.slot.specs.Slots.{emptySlot, isEmptySlot};
+ghost use Rattle.tables.specs.Tables.{places};
+ghost use Rattle.slot.specs.Matrix.{newMatrix, slotsOf, withSlot};
+ghost use Rattle.matrix.specs.Which.{withCurve, withNote, placeOf, notePlace};
+ghost use Rattle.tables.specs.Rows.{finiteRow};
+ghost use Rattle.matrix.specs.Edits.{slotRow, answered, placed, slotAt, setSlot, addRoute, removeSlot, setBypass, setSlotAmount, setSlotOutput, setPolarity, setAux, setLinear, removeDestination, setGlide, setVelocityLegato, setNoteLinear, setCurve, setNoteCurve, bySource, sortSlots, loadMatrix};
+use config::SLOTS;
+use state::Matrix;
+use state::NoteCurve;
+use state::Pick;
+use state::Polarity;
+use state::Slot;
+use state::Target;
+use table::Curve;
+use tables::KEY_PLACE;
+use tables::TABLES;
+use tables::VELOCITY_PLACE;
+
+// ---- answers
+
+pub enum CurveSlot {
+    Source,
+    Aux,
+}
+
+pub enum NoteSlot {
+    Velocity,
+    Key,
+}
+
+pub enum SortBy {
+    Source,
+    Destination,
+}
+
+pub struct SlotRead {
+    pub code: u8,
+    pub slot: Slot,
+}
+
+pub struct Edited {
+    pub code: u8,
+    pub matrix: Matrix,
+}
+
+pub enum Place {
+    At(usize),
+    Full,
+    NoFreeLfo,
+    Refused,
+}
+
+pub struct Placed {
+    pub code: u8,
+    pub place: Place,
+    pub matrix: Matrix,
+}
+
+pub struct Removed {
+    pub count: usize,
+    pub matrix: Matrix,
+}
+
+// ---- slots
+
+// the slot that nothing is assigned to
+pub fn empty_slot() -> Slot
+    ensures { λ r. ⌜ r ≡ emptySlot ⌝ }
+{
+    slot::empty_slot()
+}
+
+// a matrix of empty slots
+pub fn new() -> Matrix
+    ensures { λ r. ⌜ r ≡ newMatrix ⌝ }
+{
+    let empty = empty_slot();
+    let slot = [empty; SLOTS];
+    Matrix {
+        slot,
+        velocity: NoteCurve::Linear,
+        key: NoteCurve::Linear,
+        glide: false,
+        velocity_legato: false,
+    }
+}
+
+// whether nothing is assigned to the slot
+pub fn is_empty(slot: Slot) -> bool
+    ensures { λ r. ⌜ r ≡ isEmptySlot slot ⌝ }
+{
+    slot::is_empty(slot)
+}
+
+// the matrix's slots
+pub fn slots(matrix: Matrix) -> [Slot; SLOTS]
+    ensures { λ r. ⌜ r ≡ slotsOf matrix ⌝ }
+{
+    matrix.slot
+}
+
+// slot n
+pub fn slot(matrix: Matrix, n: usize) -> SlotRead
+    ensures { λ r. ⌜ r ≡ slotAt matrix n ⌝ }
+{
+    SlotRead {
+        code: slot_code(n),
+        slot: slot::slot_of(matrix, n),
+    }
+}
+
+// ---- what every edit of a slot has
+
+// slot n becomes `slot` where the call is accepted
+fn answer(code: u8, matrix: Matrix, n: usize, slot: Slot) -> Edited
+    ensures { λ r. ⌜ r ≡ answered code matrix (withSlot matrix n slot) ⌝ }
+{
+    if code != 0 {
+        return Edited { code, matrix };
+    }
+    if SLOTS <= n {
+        return Edited { code, matrix };
+    }
+    let mut next = matrix;
+    next.slot[n] = slot;
+    Edited { code, matrix: next }
+}
+
+// row 5
+fn slot_code(n: usize) -> u8
+    ensures { λ r. ⌜ r ≡ judged (slotRow n ∷ []) ⌝ }
+{
+    judge::row(SLOTS <= n, 5)
+}
+
+// row 5, then row 6
+fn slot_and_number_code(n: usize, finite: bool) -> u8
+    ensures { λ r. ⌜ r ≡ judged (slotRow n ∷ finiteRow finite ∷ []) ⌝ }
+{
+    judge::first(slot_code(n), judge::row(!finite, 6))
+}
+
+// ---- edits of one slot
+
+// slot n becomes `slot`, as it is
+pub fn set_slot(matrix: Matrix, n: usize, slot: Slot) -> Edited
+    ensures { λ r. ⌜ r ≡ setSlot matrix n slot ⌝ }
+{
+    answer(
+        slot_and_number_code(n, slot::numbers_finite(slot)),
+        matrix,
+        n,
+        slot,
+    )
+}
+
+// slot n becomes empty
+pub fn remove(matrix: Matrix, n: usize) -> Edited
+    ensures { λ r. ⌜ r ≡ removeSlot matrix n ⌝ }
+{
+    answer(slot_code(n), matrix, n, empty_slot())
+}
+
+// slot n is switched off or on
+pub fn set_bypass(matrix: Matrix, n: usize, bypass: bool) -> Edited
+    ensures { λ r. ⌜ r ≡ setBypass matrix n bypass ⌝ }
+{
+    answer(
+        slot_code(n),
+        matrix,
+        n,
+        slot::with_bypass(slot::slot_of(matrix, n), bypass),
+    )
+}
+
+// slot n's amount, -1 to 1
+pub fn set_amount(matrix: Matrix, n: usize, amount: f32) -> Edited
+    ensures { λ r. ⌜ r ≡ setSlotAmount matrix n amount ⌝ }
+{
+    let slot = slot::with_amount(slot::slot_of(matrix, n), slot::kept_amount(amount));
+    answer(
+        slot_and_number_code(n, number::is_finite(amount)),
+        matrix,
+        n,
+        slot,
+    )
+}
+
+// slot n's output, 0 to 1
+pub fn set_output(matrix: Matrix, n: usize, output: f32) -> Edited
+    ensures { λ r. ⌜ r ≡ setSlotOutput matrix n output ⌝ }
+{
+    let slot = slot::with_output(slot::slot_of(matrix, n), slot::kept_output(output));
+    answer(
+        slot_and_number_code(n, number::is_finite(output)),
+        matrix,
+        n,
+        slot,
+    )
+}
+
+// slot n's polarity
+pub fn set_polarity(matrix: Matrix, n: usize, polarity: Polarity) -> Edited
+    ensures { λ r. ⌜ r ≡ setPolarity matrix n polarity ⌝ }
+{
+    answer(
+        slot_code(n),
+        matrix,
+        n,
+        slot::with_polarity(slot::slot_of(matrix, n), polarity),
+    )
+}
+
+// slot n's aux source, or none, and whether it is inverted
+pub fn set_aux(matrix: Matrix, n: usize, aux: Pick, invert: bool) -> Edited
+    ensures { λ r. ⌜ r ≡ setAux matrix n aux invert ⌝ }
+{
+    answer(
+        slot_code(n),
+        matrix,
+        n,
+        slot::with_aux(slot::slot_of(matrix, n), aux, invert),
+    )
+}
+
+fn with_curve(slot: Slot, which: CurveSlot, curve: Curve) -> Slot
+    ensures { λ r. ⌜ r ≡ withCurve which curve slot ⌝ }
+{
+    match which {
+        CurveSlot::Source => slot::with_source_curve(slot, curve),
+        CurveSlot::Aux => slot::with_aux_curve(slot, curve),
+    }
+}
+
+// that curve of slot n becomes linear
+pub fn set_linear(matrix: Matrix, n: usize, which: CurveSlot) -> Edited
+    ensures { λ r. ⌜ r ≡ setLinear matrix n which ⌝ }
+{
+    let linear = Curve::Linear;
+    answer(
+        slot_code(n),
+        matrix,
+        n,
+        with_curve(slot::slot_of(matrix, n), which, linear),
+    )
+}
+
+// ---- adding a route
+
+// slot i becomes `slot` where the call is accepted and there is a slot i
+fn place_at(code: u8, matrix: Matrix, i: usize, slot: Slot) -> Placed
+    ensures { λ r. ⌜ r ≡ placed code matrix i slot ⌝ }
+{
+    if code != 0 {
+        return Placed {
+            code,
+            place: Place::Refused,
+            matrix,
+        };
+    }
+    if SLOTS <= i {
+        return Placed {
+            code: 0,
+            place: Place::Full,
+            matrix,
+        };
+    }
+    let mut next = matrix;
+    next.slot[i] = slot;
+    Placed {
+        code: 0,
+        place: Place::At(i),
+        matrix: next,
+    }
+}
+
+// a route in the first empty slot
+pub fn add(
+    matrix: Matrix,
+    source: usize,
+    destination: Target,
+    amount: f32,
+    polarity: Polarity,
+) -> Placed
+    ensures { λ r. ⌜ r ≡ addRoute matrix source destination amount polarity ⌝ }
+{
+    let code = judge::row(!number::is_finite(amount), 6);
+    let route = slot::route_slot(source, destination, slot::kept_amount(amount), polarity);
+    let slots = matrix.slot;
+    place_at(code, matrix, slot::first_empty(slots), route)
+}
+
+// ---- removing a destination
+
+// every slot that modulates the destination becomes empty
+pub fn remove_destination(matrix: Matrix, destination: Target) -> Removed
+    ensures { λ r. ⌜ r ≡ removeDestination matrix destination ⌝ }
+{
+    let slot = matrix.slot;
+    let count = slot::count_aims(destination, slot);
+    let next = slot::clear_all(destination, slot);
+    Removed {
+        count,
+        matrix: slot::with_slots(matrix, next),
+    }
+}
+
+// ---- note curves
+
+// whether note values glide
+pub fn set_glide(matrix: Matrix, on: bool) -> Matrix
+    ensures { λ r. ⌜ r ≡ setGlide matrix on ⌝ }
+{
+    let mut next = matrix;
+    next.glide = on;
+    next
+}
+
+// whether a legato note sets the velocity
+pub fn set_velocity_legato(matrix: Matrix, on: bool) -> Matrix
+    ensures { λ r. ⌜ r ≡ setVelocityLegato matrix on ⌝ }
+{
+    let mut next = matrix;
+    next.velocity_legato = on;
+    next
+}
+
+fn with_note(matrix: Matrix, which: NoteSlot, curve: NoteCurve) -> Matrix
+    ensures { λ r. ⌜ r ≡ withNote matrix which curve ⌝ }
+{
+    match which {
+        NoteSlot::Velocity => slot::with_velocity(matrix, curve),
+        NoteSlot::Key => slot::with_key(matrix, curve),
+    }
+}
+
+// that note curve becomes linear
+pub fn set_note_linear(matrix: Matrix, which: NoteSlot) -> Matrix
+    ensures { λ r. ⌜ r ≡ setNoteLinear matrix which ⌝ }
+{
+    let linear = NoteCurve::Linear;
+    with_note(matrix, which, linear)
+}
+
+// ---- tables
+
+// the number of the place of a slot's curve
+fn place_of(n: usize, which: CurveSlot) -> usize
+    requires { ⌜ n < 64 ⌝ }
+    ensures { λ r. ⌜ (r ≡ placeOf n which) × (r < places) ⌝ }
+{
+    match which {
+        CurveSlot::Source => tables::slot_place(n, 0),
+        CurveSlot::Aux => tables::slot_place(n, 1),
+    }
+}
+
+// the number of the place of a note curve
+fn note_place(which: NoteSlot) -> usize
+    ensures { λ r. ⌜ (r ≡ notePlace which) × (r < places) ⌝ }
+{
+    match which {
+        NoteSlot::Velocity => VELOCITY_PLACE,
+        NoteSlot::Key => KEY_PLACE,
+    }
+}
+
+// that curve of slot n becomes a table with these seconds
+pub fn set_curve(
+    matrix: Matrix,
+    tables: &mut [f32],
+    n: usize,
+    which: CurveSlot,
+    table: &[f32],
+    rise: f32,
+    fall: f32,
+) -> Edited
+    ensures answer { λ r. ⌜ r ≡ setCurve matrix (now (tables .entry)) n which (now (table .entry)) rise fall .answer ⌝ }
+    ensures lent { λ _. ⌜ now (tables .exit) ≡ setCurve matrix (now (tables .entry)) n which (now (table .entry)) rise fall .tables ⌝ }
+{
+    let allowed = tables::curve_allowed(table, rise, fall);
+    let code = judge::first(
+        slot_code(n),
+        tables::rows_of_table(allowed, tables.len(), table.len()),
+    );
+    if code != 0 {
+        return Edited { code, matrix };
+    }
+    let curve = Curve::Table { rise, fall };
+    let slot = with_curve(slot::slot_of(matrix, n), which, curve);
+    tables::write_table(tables, place_of(n, which), table);
+    answer(0, matrix, n, slot)
+}
+
+// that note curve becomes a table
+pub fn set_note_curve(matrix: Matrix, tables: &mut [f32], which: NoteSlot, table: &[f32]) -> Edited
+    ensures answer { λ r. ⌜ r ≡ setNoteCurve matrix (now (tables .entry)) which (now (table .entry)) .answer ⌝ }
+    ensures lent { λ _. ⌜ now (tables .exit) ≡ setNoteCurve matrix (now (tables .entry)) which (now (table .entry)) .tables ⌝ }
+{
+    let code = tables::rows_of_table(table::numbers_allowed(table), tables.len(), table.len());
+    if code != 0 {
+        return Edited { code, matrix };
+    }
+    let curve = NoteCurve::Table;
+    let next = with_note(matrix, which, curve);
+    tables::write_table(tables, note_place(which), table);
+    Edited {
+        code: 0,
+        matrix: next,
+    }
+}
+
+// ---- sorting
+
+fn by_source(by: SortBy) -> bool
+    ensures { λ r. ⌜ r ≡ bySource by ⌝ }
+{
+    match by {
+        SortBy::Source => true,
+        SortBy::Destination => false,
+    }
+}
+
+// the slots in order, their tables with them
+pub fn sort(matrix: Matrix, tables: &mut [f32], by: SortBy) -> Edited
+    ensures answer { λ r. ⌜ r ≡ sortSlots matrix (now (tables .entry)) by .answer ⌝ }
+    ensures lent { λ _. ⌜ now (tables .exit) ≡ sortSlots matrix (now (tables .entry)) by .tables ⌝ }
+{
+    let slot = matrix.slot;
+    let places = sorting::places_by(by_source(by), slot);
+    let next = slot::with_slots(matrix, sorting::slots_at(places, slot));
+    if !tables::names_table(matrix) {
+        return Edited {
+            code: 0,
+            matrix: next,
+        };
+    }
+    if tables.len() < TABLES {
+        return Edited { code: 14, matrix };
+    }
+    sorting::move_tables(tables, places);
+    Edited {
+        code: 0,
+        matrix: next,
+    }
+}
+
+// ---- loading
+
+// the matrix becomes the other, its tables with it
+pub fn load(matrix: Matrix, tables: &mut [f32], other: Matrix, other_tables: &[f32]) -> Edited
+    ensures answer { λ r. ⌜ r ≡ loadMatrix matrix (now (tables .entry)) other (now («other_tables» .entry)) .answer ⌝ }
+    ensures lent { λ _. ⌜ now (tables .exit) ≡ loadMatrix matrix (now (tables .entry)) other (now («other_tables» .entry)) .tables ⌝ }
+{
+    if !tables::names_table(other) {
+        return Edited {
+            code: 0,
+            matrix: other,
+        };
+    }
+    if tables.len() < TABLES {
+        return Edited { code: 14, matrix };
+    }
+    if other_tables.len() < TABLES {
+        return Edited { code: 14, matrix };
+    }
+    tables::write_tables(tables, other_tables);
+    Edited {
+        code: 0,
+        matrix: other,
+    }
+}

@@ -1,0 +1,6 @@
+pub mod Held
+pub mod Lists
+pub mod Looking
+pub mod Places
+pub mod Marked
+pub mod Order

@@ -1,0 +1,22 @@
+-- `program::numbers_allowed` meets its contract.
+use mathlib.Core.Path.{sym, _∙_}
+use borrow.Author.Tests.{not-true, not-false}
+use borrow.Author.Needs.{needs}
+use Rattle.program.proofs.numbers_allowed.Statement.{statement}
+use Rattle.program.proofs.numbers_allowed.Tie as tie
+
+all-finite-requires : tie.Need-all-finite-requires
+all-finite-requires c κs = search needs
+
+returns : tie.Need-returns
+returns c = simp (sym (c .before .all-finite .ensures) ∙ not-true _ (c .if1 .taken))
+
+named-allowed-requires : tie.Need-named-allowed-requires
+named-allowed-requires c κs = search needs
+
+returns-2 : tie.Need-returns-2
+returns-2 c = c .named-allowed .ensures ∙ simp (sym (c .before .before .all-finite .ensures) ∙ not-false _ (c .before .if1 .left))
+
+pub numbers-allowed-spec : {M : Type 1} → statement M
+numbers-allowed-spec =
+    tie.close (tie.spec all-finite-requires returns named-allowed-requires returns-2)

@@ -1,0 +1,5 @@
+pub mod Tests
+pub mod Find
+pub mod Parts
+pub mod Turns
+pub mod Lists

@@ -1,0 +1,12 @@
+-- `slot::with_aux` meets its contract.
+use borrow.Author.Needs.{needs}
+use Rattle.slot.specs.Slots.{withAux}
+use Rattle.slot.proofs.with_aux.Statement.{statement}
+use Rattle.slot.proofs.with_aux.Tie as tie
+
+returns : tie.Need-returns
+unfolding withAux
+returns c = search needs
+
+pub with-aux-spec : {M : Type 1} → statement M
+with-aux-spec = tie.close (tie.spec returns)

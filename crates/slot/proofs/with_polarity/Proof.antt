@@ -1,0 +1,12 @@
+-- `slot::with_polarity` meets its contract.
+use borrow.Author.Needs.{needs}
+use Rattle.slot.specs.Slots.{withPolarity}
+use Rattle.slot.proofs.with_polarity.Statement.{statement}
+use Rattle.slot.proofs.with_polarity.Tie as tie
+
+returns : tie.Need-returns
+unfolding withPolarity
+returns c = search needs
+
+pub with-polarity-spec : {M : Type 1} → statement M
+with-polarity-spec = tie.close (tie.spec returns)

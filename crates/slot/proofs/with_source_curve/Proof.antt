@@ -1,0 +1,12 @@
+-- `slot::with_source_curve` meets its contract.
+use borrow.Author.Needs.{needs}
+use Rattle.slot.specs.Slots.{withSourceCurve}
+use Rattle.slot.proofs.with_source_curve.Statement.{statement}
+use Rattle.slot.proofs.with_source_curve.Tie as tie
+
+returns : tie.Need-returns
+unfolding withSourceCurve
+returns c = search needs
+
+pub with-source-curve-spec : {M : Type 1} → statement M
+with-source-curve-spec = tie.close (tie.spec returns)

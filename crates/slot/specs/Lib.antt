@@ -1,0 +1,3 @@
+pub mod Slots
+pub mod Matrix
+pub mod Examples
