@@ -14,7 +14,7 @@ use Rattle.filled.specs.declared.Numbers.{Numbers}
 use Rattle.filled.specs.Filled.{usedDestsIn, numbersOf, numbersIn, withNumber}
 use Rattle.filled.proofs.Laws.{numbers-more}
 use Rattle.planning.specs.Marks.{isRated, ratedAs, ratedAdded, numbersAdded}
-use Rattle.planning.proofs.Held.{held-length, held-more, held-rest, held-all, held-none}
+use Rattle.filled.proofs.Stored.{stored-length, stored-to, stored-from, stored-all, stored-end}
 
 -- ---- the numbers of those of one rate
 
@@ -56,20 +56,20 @@ rated-added b us u h = rw (rated-split b us (u ∷ [])) (go (which (isRated b u)
 
 pub used-most : (used : UsedDests) → length (used .at) ≡ slots → length (usedDestsIn used) ≤ slots
 unfolding usedDestsIn
-used-most used long = omega (arith, held-length (used .at) (used .count) long)
+used-most used long = omega (arith, stored-length (used .at) (used .count) long)
 
 module _ (used : UsedDests) (b : Bool) (long : length (used .at) ≡ slots) where
   pub rated-turn : (i : ℕ) (d : Used) (out : Numbers) → i < min (used .count) slots → out ≡ numbersOf (ratedAs b (take i (usedDestsIn used)))
       → ratedAdded out b (getD (used .at) i d) ≡ numbersOf (ratedAs b (take (i + 1) (usedDestsIn used)))
   unfolding usedDestsIn
   rated-turn i d out h e =
-      rw (e, held-more (used .at) (used .count) long i h d)
-      (rated-added b (take i (usedDestsIn used)) (getD (used .at) i d) (omega (arith, length-take i (usedDestsIn used), held-length (used .at) (used .count) long)))
+      rw (e, stored-to (used .at) (used .count) long i d h)
+      (rated-added b (take i (usedDestsIn used)) (getD (used .at) i d) (omega (arith, length-take i (usedDestsIn used), stored-length (used .at) (used .count) long)))
 
   pub rated-end : (i : ℕ) (out : Numbers) → min (used .count) slots ≤ i → out ≡ numbersOf (ratedAs b (take i (usedDestsIn used)))
       → out ≡ numbersOf (ratedAs b (usedDestsIn used))
   unfolding usedDestsIn
-  rated-end i out h e = rw (held-all (used .at) (used .count) long i h) at e
+  rated-end i out h e = rw (stored-all (used .at) (used .count) long i h) at e
 
 -- ---- what stands at places
 
@@ -81,12 +81,12 @@ module _ (f : ℕ → ℕ) (places : List ℕ) (n : ℕ) (long : length places �
   pub placed-turn : (k : ℕ) (out : Numbers) → k < min n slots → out ≡ numbersOf (map f (take k (take n places)))
       → withNumber out (f (getD places k 0)) ≡ numbersOf (map f (take (k + 1) (take n places)))
   placed-turn k out h e =
-      rw (e, held-more places n long k h 0, map-split f (take k (take n places)) (getD places k 0 ∷ []))
+      rw (e, stored-to places n long k 0 h, map-split f (take k (take n places)) (getD places k 0 ∷ []))
       (numbers-more (map f (take k (take n places))) (f (getD places k 0))
-      (omega (arith, length-map (take k (take n places)) f, length-take k (take n places), held-length places n long)))
+      (omega (arith, length-map (take k (take n places)) f, length-take k (take n places), stored-length places n long)))
 
   pub placed-end : (k : ℕ) (out : Numbers) → min n slots ≤ k → out ≡ numbersOf (map f (take k (take n places))) → out ≡ numbersOf (map f (take n places))
-  placed-end k out h e = rw (held-all places n long k h) at e
+  placed-end k out h e = rw (stored-all places n long k h) at e
 
 -- ---- one list behind another
 
@@ -94,11 +94,11 @@ module _ (more : Numbers) (whole : Numbers) (long : length (more .at) ≡ slots)
   pub added-turn : (i : ℕ) (out : Numbers) → i < min (more .count) slots → numbersAdded out (drop i (numbersIn more)) ≡ whole
       → numbersAdded (withNumber out (getD (more .at) i 0)) (drop (i + 1) (numbersIn more)) ≡ whole
   unfolding numbersIn
-  added-turn i out h e = rw (held-rest (more .at) (more .count) long i h 0) at e
+  added-turn i out h e = rw (stored-from (more .at) (more .count) long i 0 h) at e
 
   pub added-end : (i : ℕ) (out : Numbers) → min (more .count) slots ≤ i → numbersAdded out (drop i (numbersIn more)) ≡ whole → out ≡ whole
   unfolding numbersIn
-  added-end i out h e = rw (held-none (more .at) (more .count) long i h) at e
+  added-end i out h e = rw (stored-end (more .at) (more .count) long i h) at e
 
 -- behind the list that the array holds, where there is room for both
 pub numbers-added : (xs ys : List ℕ) → length xs + length ys ≤ slots → numbersAdded (numbersOf xs) ys ≡ numbersOf (xs ++ ys)

@@ -4,8 +4,10 @@ use mathlib.Core.Bool.{Bool, true, false, _&&_, _||_}
 use mathlib.Core.List.{List}
 use Prim.Native.Nat.{ℕ, _+_, _/_, _%_, _≤_, _<_, min}
 use lib.Dec.{eqb, ltb}
+use native.Mathlib.Omega.{arith}
 use borrow.Author.Tests.{lt-ltb, le-ltb}
 use lib.ListN.{length, getD, drop}
+use lib.Seq.{getD-take}
 use Rattle.config.specs.Sizes.{slots}
 use Rattle.state.specs.declared.Reader.{Reader}
 use Rattle.filled.specs.declared.Readers.{Readers}
@@ -13,13 +15,13 @@ use Rattle.filled.specs.declared.Numbers.{Numbers}
 use Rattle.filled.specs.Filled.{readersIn, numbersIn}
 use Rattle.model.specs.Feeds.{isAmong, anyReads}
 use Rattle.planning.specs.Marks.{feedsOther, markAt}
-use Rattle.planning.proofs.Held.{held-length, held-at, held-rest, held-none}
+use Rattle.filled.proofs.Stored.{stored-length, stored-from, stored-end}
 
 module _ (readers : Readers) (a b : ℕ) (long : length (readers .at) ≡ slots) (i : ℕ) where
   module _ (d : Reader) (h : i < min (readers .count) slots) where
     turn : anyReads a b (drop i (readersIn readers)) ≡ (eqb (getD (readers .at) i d .candidate .dest) b && isAmong a (getD (readers .at) i d) || anyReads a b (drop (i + 1) (readersIn readers)))
     unfolding readersIn
-    turn = ap (anyReads a b) (held-rest (readers .at) (readers .count) long i h d)
+    turn = ap (anyReads a b) (stored-from (readers .at) (readers .count) long i d h)
 
     pub read-here : eqb (getD (readers .at) i d .candidate .dest) b && isAmong a (getD (readers .at) i d) ≡ true → anyReads a b (drop i (readersIn readers)) ≡ true
     read-here t = turn ∙ rw t
@@ -30,16 +32,16 @@ module _ (readers : Readers) (a b : ℕ) (long : length (readers .at) ≡ slots)
 
   pub read-none : min (readers .count) slots ≤ i → anyReads a b (drop i (readersIn readers)) ≡ false
   unfolding readersIn
-  read-none h = ap (anyReads a b) (held-none (readers .at) (readers .count) long i h)
+  read-none h = ap (anyReads a b) (stored-end (readers .at) (readers .count) long i h)
 
 module _ (rs : List Reader) (control : Numbers) (long : length (control .at) ≡ slots) (p : ℕ) where
   many : length (numbersIn control) ≡ min (control .count) slots
   unfolding numbersIn
-  many = held-length (control .at) (control .count) long
+  many = stored-length (control .at) (control .count) long
 
   same : (i : ℕ) → i < min (control .count) slots → getD (numbersIn control) i 0 ≡ getD (control .at) i 0
   unfolding numbersIn
-  same i b = held-at (control .at) (control .count) long i b 0
+  same i b = getD-take (control .count) (control .at) i 0 (omega arith)
 
   pub mark-no-row : min (control .count) slots ≤ p / slots → markAt rs (numbersIn control) p ≡ false
   unfolding markAt
