@@ -1,5 +1,4 @@
 // Compiling, and what it is lent.
-ghost use Prim.Native.Nat.{_≤_, _*_};
 use crate::said::ALL;
 use crate::said::LESS;
 use crate::said::Lent;
@@ -11,30 +10,6 @@ use crate::said::too_large;
 use crate::slots::lent_of;
 use state::Compiled;
 use state::Program;
-
-// a count, held to 64
-fn held(n: usize) -> usize
-    ensures { λ r. ⌜ r ≤ 64 ⌝ }
-{
-    if n < 64 { n } else { 64 }
-}
-
-// the product of two numbers below 2^20
-fn product(a: usize, b: usize) -> usize
-    ensures { λ r. ⌜ r ≤ 1048575 * 1048575 ⌝ }
-{
-    (a % 1048576) * (b % 1048576)
-}
-
-// the numbers of `values` and of `audio` that a program needs (docs/CALLS.md, Memories)
-fn values_need(stride: usize, chunks: usize, plans: usize, routes: usize) -> usize {
-    let a = product(held(plans), 2 * (chunks % 1048576) + 6);
-    product(stride, a + 8 * held(routes))
-}
-
-fn audio_need(stride: usize, frames: usize, plans: usize) -> usize {
-    product(stride, product(held(plans), frames))
-}
 
 // compiles with the first numbers of each memory
 fn compiled(
@@ -69,10 +44,9 @@ fn compiled(
 fn lengths(s: State, program: Program, values: usize, audio: usize) -> Lent {
     let config = s.config;
     let lent = s.lent;
-    let stride = program::stride(config).n;
-    let chunks = program::max_chunks(config).n;
-    let a = values_need(stride, chunks, program.plans, program.routes);
-    let b = audio_need(stride, config.max_frames, program.plans);
+    let frames = config.max_frames;
+    let a = need::values(config.voices, frames, program.plans, program.routes);
+    let b = need::audio(config.voices, frames, program.plans);
     Lent {
         matrix_tables: lent.matrix_tables,
         tables: lent.tables,
