@@ -245,4 +245,5 @@ def main():
 UNFOLDED = ("targetPlace verdict verdictsFrom verdicts candidates skippedOf inUse countedFeed usedDests feederOf readersOf reads "
             "hearsAudio isAudio controls audios planOrder slewFor inputBy routeBy routeIn planBy plansOf allRoutes order secondsOf "
             "ratePerSample max32 isNan lt eq mul div")
-main()
+if __name__ == "__main__":
+    main()

@@ -7,3 +7,4 @@ pub mod Ordered
 pub mod LayoutHolds
 pub mod ProgramLayout
 pub mod Made
+pub mod Refusals

@@ -1,8 +1,8 @@
 -- Document 01, "Checked by hand": the worked cases, as one table. Each has its number, what the definitions give, and what document 01 says; a binary32
 -- stands by its bits. Definitions only; that each case holds is the one theorem of proofs/CasesHold.antt.
-use mathlib.Core.Bool.{true, false}
-use mathlib.Core.List.{List, [], _∷_, map}
-use Prim.Native.Nat.{ℕ}
+use mathlib.Core.Bool.{true, false, cond}
+use mathlib.Core.List.{List, [], _∷_, _++_, map}
+use Prim.Native.Nat.{ℕ, suc}
 use lib.IntN.{pos, negsuc}
 use lib.ListN.{length, getD}
 use lib.Ieee.{Float, fin, inf, binary32, toBits}
@@ -35,7 +35,14 @@ use Rattle.state.specs.declared.Program.{Program}
 use Rattle.state.specs.declared.Wiring.{Wiring}
 use Rattle.slot.specs.Slots.{keptAmount}
 use Rattle.filled.specs.Filled.{noRoute}
+use Rattle.voice.specs.declared.Legato.the-variants as W
+use Rattle.voice.specs.Notes.{noNotes, setNote, advanced, valueOf, glideOf}
+use Rattle.state.specs.declared.Chunk.{Chunk}
 use Rattle.model.specs.Plans.{plansOf, compiled}
+use Rattle.model.specs.Counts.{at}
+use Rattle.model.specs.Chunks.{chunkList}
+use Rattle.model.specs.Outputs.{fromStart, toStart}
+use Rattle.model.specs.Calls.{Call, base-set, note-on, voice-ended, swap, block, Runner, keptOf, startOf, run}
 
 pub record Case : Type 0 where
   pub number : ℕ
@@ -44,6 +51,30 @@ pub record Case : Type 0 where
 
 abbrev pub bits : List Float → List ℕ
 bits xs = map (toBits binary32) xs
+
+-- ---- single pieces
+
+-- "Phase 5, range 0 to 64: lengths 27, 32, 5; starts 0, 27, 59."
+unfoldable pub case4 : Case
+case4 =
+    let cs = chunkList (record { start = 0; end = 64; phase = 5; «first_tick» = false }) in
+    record {
+      number = 4;
+      found = map (λ (c : Chunk). c .len) cs ++ map (λ (c : Chunk). c .start) cs;
+      expected = 27 ∷ 32 ∷ 5 ∷ 0 ∷ 27 ∷ 59 ∷ [];
+    }
+
+-- "Glide 0 to 1, 1 s, rate 64: 0.5 after 32 frames, then 1, ended."
+unfoldable pub case8 : Case
+case8 =
+    let begun = setNote noNotes 0 one32 (W.Glide one32) (fin false 1 (pos 6)) in
+    let half = advanced begun 32 in
+    let whole = advanced half 32 in
+    record {
+      number = 8;
+      found = bits (valueOf begun 0 ∷ valueOf half 0 ∷ valueOf whole 0 ∷ glideOf whole 0 .step ∷ []);
+      expected = 0 ∷ 0x3f00_0000 ∷ 0x3f80_0000 ∷ 0 ∷ [];
+    }
 
 -- ---- wirings: sources without keys, destinations from 0 to 1 at control rate, slots with a source, an amount and a destination
 
@@ -155,9 +186,65 @@ case11 =
       expected = 0x3f80_0000 ∷ 0xbf80_0000 ∷ 0x3fc0_0000 ∷ [];
     }
 
+-- ---- lists of calls: a constant source into global control 0, from 0 to 1, base 0.25, amount 0.5, output 1, voices 1, frames 64
+
+-- what the program `cases` prints of control destination 0 after the last block: start, length, phase, tick, from and to of each chunk
+abbrev printedChunk : Runner → ℕ → Chunk → List ℕ
+printedChunk r i c =
+    let st = r .world .state in
+    c .start ∷ c .len ∷ c .phase ∷ cond (c .tick) 1 0 ∷ bits (at (r .world .values) (fromStart st 0 i) ∷ at (r .world .values) (toStart st 0 i) ∷ [])
+
+abbrev printedFrom : Runner → ℕ → List Chunk → List ℕ
+printedFrom r i [] = []
+printedFrom r i (c ∷ cs) = printedChunk r i c ++ printedFrom r (suc i) cs
+
+abbrev printed : Runner → List ℕ
+printed r = printedFrom r 0 (chunkList (r .world .state .block))
+
+abbrev constant : Wiring
+constant =
+    record {
+      matrix = record { slot = slot 0 0 half32 Q.Unipolar ∷ []; velocity = N.Linear; key = N.Linear; glide = false; «velocity_legato» = false };
+      sources = record { count = 1; entry = source K.Constant R.Unipolar ∷ [] };
+      dests = record { count = 1; entry = dest 0 F.Nothing ∷ [] };
+      config = record { «sample_rate» = fin false 1 (pos 6); «max_frames» = 64; voices = 1 };
+    }
+
+abbrev started : Runner
+started = startOf (constant .sources) (constant .dests) (constant .config) (keptOf constant [] ∷ [])
+
+abbrev quarter : Call
+quarter = base-set 0 (fin false 1 (negsuc 1))
+
+abbrev over : ℕ → ℕ → Call
+over start end = block [] (record { part = [] }) start end
+
+-- "range 0 to 64": twice 0.75 to 0.75
+unfoldable pub case5 : Case
+case5 =
+    record {
+      number = 5;
+      found = printed (run (swap 1 ∷ quarter ∷ over 0 64 ∷ []) started);
+      expected = 0 ∷ 32 ∷ 0 ∷ 1 ∷ 0x3f40_0000 ∷ 0x3f40_0000 ∷ 32 ∷ 32 ∷ 0 ∷ 1 ∷ 0x3f40_0000 ∷ 0x3f40_0000 ∷ [];
+    }
+
+-- "Range 0 to 5 with no program; note on, voice ended; swap in case 5; range 0 to 27: one tick at phase 5, 0.75 to 0.75. Without the note: no tick, 0 to 0."
+abbrev note : Call
+note = note-on 0 (record { key = zero32; velocity = one32; legato = false; glide-seconds = zero32 })
+
+unfoldable pub case10 : Case
+case10 =
+    record {
+      number = 10;
+      found =
+          printed (run (quarter ∷ over 0 5 ∷ note ∷ voice-ended 0 ∷ swap 1 ∷ over 0 27 ∷ []) started)
+          ++ printed (run (quarter ∷ over 0 5 ∷ swap 1 ∷ over 0 27 ∷ []) started);
+      expected = 0 ∷ 27 ∷ 5 ∷ 1 ∷ 0x3f40_0000 ∷ 0x3f40_0000 ∷ 0 ∷ 27 ∷ 5 ∷ 0 ∷ 0 ∷ 0 ∷ [];
+    }
+
 -- "Draw state 1 becomes 33,554,433."
 unfoldable pub case12 : Case
 case12 = record { number = 12; found = step 1 ∷ []; expected = 33554433 ∷ [] }
 
 unfoldable pub cases : List Case
-cases = case1 ∷ case2 ∷ case3 ∷ case6 ∷ case7 ∷ case9 ∷ case11 ∷ case12 ∷ []
+cases = case1 ∷ case2 ∷ case3 ∷ case4 ∷ case5 ∷ case6 ∷ case7 ∷ case8 ∷ case9 ∷ case10 ∷ case11 ∷ case12 ∷ []

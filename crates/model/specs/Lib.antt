@@ -6,4 +6,23 @@ pub mod Plans
 pub mod Need
 pub mod Layout
 pub mod Compile
+pub mod Counts
+pub mod Env
+pub mod Input
+pub mod Lanes
+pub mod RouteValue
+pub mod Sums
+pub mod Slews
+pub mod Tick
+pub mod Audio
+pub mod Chunks
+pub mod World
+pub mod States
+pub mod Process
+pub mod Settings
+pub mod NoteCalls
+pub mod Outputs
+pub mod Calls
 mod CompiledExamples
+mod EngineExamples
+mod SessionExamples

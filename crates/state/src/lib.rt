@@ -6,6 +6,9 @@ use config::DESTINATIONS;
 use config::SLOTS;
 use config::SOURCES;
 use table::Curve;
+use voice::Marks;
+use voice::Notes;
+use voice::Voices;
 
 pub const KEY_BYTES: usize = 32;
 
@@ -301,4 +304,93 @@ pub struct Reader {
     pub aux: Feeder,
     pub amount: Feeder,
     pub output: Feeder,
+}
+
+// ---- the engine (engine.rs 202-260; document 01, Chunk and value)
+
+// A source's part of the samples: (0, 0, 0) where it is unbound.
+pub struct SignalPart {
+    pub at: usize,
+    pub len: usize,
+    pub stride: usize,
+}
+
+pub struct Signals {
+    pub part: [SignalPart; SOURCES],
+}
+
+// What the engine knows of a source.
+pub struct SourceMark {
+    pub kind: Kind,
+    pub scope: Scope,
+}
+
+pub struct Chunk {
+    pub start: usize,
+    pub len: usize,
+    pub phase: usize,
+    pub tick: bool,
+}
+
+// The last nonempty block: its range, the phase at its start, and whether its first chunk ticks whatever the phase. `start` = `end` where it had no routes.
+pub struct Block {
+    pub start: usize,
+    pub end: usize,
+    pub phase: usize,
+    pub first_tick: bool,
+}
+
+pub struct State {
+    pub config: Config,
+    pub sources: usize,
+    pub dests: usize,
+    pub mark: [SourceMark; SOURCES],
+    pub voices: Voices,
+    pub marks: Marks,
+    pub velocity: Notes,
+    pub key: Notes,
+    pub gains: Gains,
+    pub alternate: bool,
+    pub draw: u64,
+    pub limit: usize,
+    pub phase: usize,
+    pub block: Block,
+    pub primed: bool,
+    pub program: Program,
+}
+
+// ---- answers of calls on an engine
+
+pub struct Flag {
+    pub code: u8,
+    pub on: bool,
+}
+
+pub struct Bound {
+    pub code: u8,
+    pub signals: Signals,
+}
+
+pub enum ChunkRead {
+    Nothing,
+    Chunk(Chunk),
+}
+
+pub enum Output {
+    Refused(u8),
+    Unmodulated,
+    Audio { width: usize },
+    Control { width: usize, chunks: usize },
+}
+
+pub enum Reading {
+    Refused(u8),
+    Nothing,
+    Value(f32),
+}
+
+pub enum Ramped {
+    Refused(u8),
+    Nothing,
+    Filled(usize),
 }

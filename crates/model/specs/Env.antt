@@ -1,0 +1,82 @@
+-- What a value in one lane is worked out from: everything that is read and not written while one plan is worked out, at one frame (engine.rs 781-794). Definitions only.
+use mathlib.Core.Bool.{Bool, true, false, not, cond, _&&_}
+use mathlib.Core.List.{List}
+use Prim.Native.Nat.{ℕ, _+_, _*_, max}
+use lib.Dec.{ltb}
+use lib.ListN.{getD}
+use lib.Ieee.{Float}
+use Rattle.number.specs.Number.{zero32, times}
+use Rattle.state.specs.declared.Base.{Base}
+use Rattle.state.specs.declared.Base.the-variants as B
+use Rattle.state.specs.declared.Route.{Route}
+use Rattle.state.specs.declared.SignalPart.{SignalPart}
+use Rattle.state.specs.declared.Signals.{Signals}
+use Rattle.state.specs.declared.State.{State}
+use Rattle.model.specs.Counts.{strideOf, planAt, routeAt, at}
+
+pub record Env : Type 0 where
+  pub state : State
+  pub held : List Float
+  pub globals : List Float
+  pub bases : List Float
+  pub tables : List Float
+  pub samples : List Float
+  pub signals : Signals
+  -- the frame at which signals are read, and the frames that a signal must have for whole rows of it to be read
+  pub frame : ℕ
+  pub upTo : ℕ
+  -- the samples by which slews move, and whether those of fresh lanes end at their input
+  pub steps : Float
+  pub snap : Bool
+
+-- the rows that fed inputs read: that of plan i
+abbrev pub Rows : Type 0
+Rows = ℕ → List Float
+
+abbrev pub stride : Env → ℕ
+stride t = strideOf (t .state)
+
+-- route j of plan d
+abbrev pub routeOf : Env → ℕ → ℕ → Route
+routeOf t d j = routeAt (t .state) (planAt (t .state) d .first + j)
+
+abbrev pub isFresh : Env → ℕ → Bool
+isFresh t lane = getD (t .state .marks .fresh) lane false
+
+abbrev pub liveAmount : Env → ℕ → Float
+liveAmount t slot = at (t .state .gains .amount) slot
+
+abbrev pub liveOutput : Env → ℕ → Float
+liveOutput t slot = at (t .state .gains .output) slot
+
+-- the product of a slot's amount and output as set (engine.rs 588-592)
+abbrev pub gainOf : Env → Route → Float
+gainOf t r = times (liveAmount t (r .slot)) (liveOutput t (r .slot))
+
+-- engine.rs 771-778
+abbrev pub baseOf : Env → ℕ → Base → Float
+baseOf t dest B.Set = at (t .bases) dest
+baseOf t dest (B.Held src) = at (t .globals) src
+baseOf t dest (B.Amount slot) = liveAmount t slot
+baseOf t dest (B.Output slot) = liveOutput t slot
+
+-- ---- signals (engine.rs 39-66, 1453-1470; docs/CALLS.md, Signals)
+
+abbrev pub noPart : SignalPart
+noPart = record { at = 0; len = 0; stride = 0 }
+
+unfoldable pub partOf : Signals → ℕ → SignalPart
+partOf s src = getD (s .part) src noPart
+
+-- a stride of 0 reads as 1
+abbrev pub partStride : SignalPart → ℕ
+partStride p = max 1 (p .stride)
+
+-- number n of the part, where it has one; else 0
+abbrev pub inPart : List Float → SignalPart → ℕ → Float
+inPart samples p n = cond (ltb n (p .len)) (at samples (p .at + n)) zero32
+
+-- a lane that the signal has not got is 0, and never the next frame's first
+unfoldable pub sampleIn : List Float → SignalPart → ℕ → Bool → ℕ → Float
+sampleIn samples p frame true lane = cond (ltb lane (partStride p)) (inPart samples p (frame * partStride p + lane)) zero32
+sampleIn samples p frame false lane = inPart samples p (frame * partStride p)
