@@ -24,5 +24,4 @@ pub mod NoteCalls
 pub mod Outputs
 pub mod Calls
 mod CompiledExamples
-mod EngineExamples
 mod SessionExamples
