@@ -1,20 +1,31 @@
 -- THE THEOREM ON REFUSALS: whatever the call and the state, a number other than 0 leaves engine, programs and every lent number as they came; the number is that of the first row that
 -- applies, in the call's order, and is handed back only where it applies. Assumes nothing.
-use mathlib.Core.Path.{_≡_, refl, sym, ap}
-use mathlib.Core.Logic.{_≢_}
+use mathlib.Core.Path.{_≡_, refl, sym, ap, _∙_}
+use mathlib.Core.Logic.{_≢_, _⊎_, inl, inr}
+use mathlib.Core.Bool.{Bool, true, false, cond, _||_}
 use mathlib.Core.List.{List, [], _∷_}
 use Prim.Native.Nat.{ℕ, max}
-use lib.ListN.{set}
+use native.Mathlib.Decide.{ℕ-discrete}
+use lib.Dec.{ltb}
+use lib.ListN.{length, set}
 use lib.Ieee.{Float}
-use borrow.Author.Tests.{ne-eqb}
-use Rattle.judge.specs.Judge.{Row, First, judged}
+use borrow.Author.Tests.{eq-eqb, ne-eqb}
+use Rattle.config.specs.Sizes.{mostSignalStride}
+use Rattle.config.specs.declared.Config.{Config}
+use Rattle.judge.specs.Judge.{Row, First, _when_, judged}
 use Rattle.judge.proofs.Laws.{judged-none, judged-first}
+use Rattle.feed.proofs.Tests.{which}
+use Rattle.state.specs.declared.Sources.{Sources}
+use Rattle.state.specs.declared.Destinations.{Destinations}
 use Rattle.state.specs.declared.Signals.{Signals}
+use Rattle.state.specs.declared.Reading.the-variants as R
+use Rattle.state.specs.declared.State.{State}
 use Rattle.model.specs.World.{World, heldPlace}
 use Rattle.model.specs.States.{withGains, withLimit, putState, putHeld, putBases}
 use Rattle.model.specs.Process.{processRows, process}
-use Rattle.model.specs.Settings.{Done, doneBy, heldRows, heldWorld, voiceHeldRows, baseRows, gainRows, withAmount, withOutput, setHeld, setVoiceHeld, setBase, setAmount, setOutput, setVoiceLimit, swapProgram}
-use Rattle.model.specs.NoteCalls.{Note, noteOnRows, notedOn, noteOffRows, releasedTo, voiceEndedRows, ended, noteOn, noteOff, voiceEnded}
+use Rattle.model.specs.Settings.{Done, doneBy, heldRows, heldWorld, voiceHeldRows, baseRows, gainRows, withAmount, withOutput, setHeld, setVoiceHeld, setBase, setAmount, setOutput, setVoiceLimit, swapProgram, refusedState, newRows, freshWorld, newEngine, bindSignal}
+use Rattle.model.specs.Outputs.{readingNumber, rampedNumber, readBy, valuesShort, isControlPlan, ramped, rampOf, rampLength, latestAll}
+use Rattle.model.specs.NoteCalls.{voiceRow, Note, noteOnRows, notedOn, noteOffRows, releasedTo, voiceEndedRows, ended, noteOn, noteOff, voiceEnded}
 use Rattle.model.specs.Calls.{Call, held-set, voice-held-set, base-set, amount-set, output-set, limit-set, note-on, note-off, voice-ended, swap, block, read, Runner, onWorld, programAt, called, codeOf, rowsOf}
 
 -- the number of a call is what its rows say
@@ -100,3 +111,51 @@ refused-leaves (voice-ended v) r h = ap (onWorld r) (ended-refused (r .world) v 
 refused-leaves (swap k) r h = simp (ne-eqb (swapProgram (r .world .state) (programAt r k) .code) 0 h)
 refused-leaves (block samples signals start end) r h = ap (onWorld r) (block-refused (r .world) samples signals start end h)
 refused-leaves read r h = absurd (h refl)
+
+-- ---- the calls that make an engine, bind a signal, or write what is read
+
+module _ (ss : Sources) (ds : Destinations) (c : Config) (w : World) where
+  -- the memories as they came, and the engine of the refusal
+  pub new-refused : newEngine ss ds c w .code ≢ 0 → newEngine ss ds c w .world ≡ putState w refusedState
+  unfolding newEngine
+  new-refused h = simp (ne-eqb (judged (newRows ss ds c w)) 0 h)
+
+  pub new-first : newEngine ss ds c w .code ≢ 0 → First (newRows ss ds c w) (newEngine ss ds c w .code)
+  unfolding newEngine
+  new-first h = judged-first (newRows ss ds c w) (judged (newRows ss ds c w)) refl h
+
+pub bind-refused : (s : Signals) (src a n stride : ℕ) → bindSignal s src a n stride .code ≢ 0 → bindSignal s src a n stride .signals ≡ s
+unfolding bindSignal
+bind-refused s src a n stride h = simp (ne-eqb (judged (13 when ltb mostSignalStride stride ∷ [])) 0 h)
+
+module _ (st : State) (values : List Float) where
+  pub latest-all-refused : (audio : List Float) (n : ℕ) (out : List Float) → latestAll st values audio n out .code ≢ 0 → latestAll st values audio n out .out ≡ out
+  unfolding latestAll
+  latest-all-refused audio n out h = simp (ne-eqb (latestAll st values audio n out .code) 0 h)
+
+  pub ramp-refused : (d v : ℕ) (out : List Float) → rampedNumber (rampOf st values d v out .answer) ≢ 0 → rampOf st values d v out .out ≡ out
+  unfolding rampOf
+  ramp-refused d v out h = go (ℕ-discrete code 0)
+    where
+      code : ℕ
+      code = judged (voiceRow st v ∷ 14 when (valuesShort st values || ltb (length out) (rampLength st)) ∷ [])
+
+      by-plan : (isControlPlan st d ≡ true) ⊎ (isControlPlan st d ≡ false) → rampedNumber (ramped st values d v out .answer) ≡ 0
+      by-plan (inl t) = rw t refl
+      by-plan (inr t) = rw t refl
+
+      go : Dec (code ≡ 0) → rampOf st values d v out .out ≡ out
+      go (yes e) = absurd (h (simp (eq-eqb code 0 e) (by-plan (which (isControlPlan st d)))))
+      go (no ne) = simp (ne-eqb code 0 ne)
+
+-- what a reader answers: the number of its rows
+pub reading-judged : (rows : List Row) (b : Bool) (x : Float) → readingNumber (readBy rows b x) ≡ judged rows
+reading-judged rows b x = go (ℕ-discrete (judged rows) 0)
+  where
+    there : (b ≡ true) ⊎ (b ≡ false) → readingNumber (cond b (R.Value x) R.Nothing) ≡ 0
+    there (inl t) = rw t refl
+    there (inr t) = rw t refl
+
+    go : Dec (judged rows ≡ 0) → readingNumber (readBy rows b x) ≡ judged rows
+    go (yes e) = simp (eq-eqb (judged rows) 0 e) (there (which b) ∙ sym e)
+    go (no ne) = simp (ne-eqb (judged rows) 0 ne)

@@ -36,6 +36,10 @@ pub record Note : Type 0 where
   pub legato : Bool
   pub glide-seconds : Float
 
+-- engine.rs 94-102: not legato, with 0 seconds
+unfoldable pub newNote : Float → Float → Note
+newNote key velocity = record { key = key; velocity = velocity; legato = false; glide-seconds = zero32 }
+
 abbrev pub voiceRow : State → ℕ → Row
 voiceRow st v = 2 when leb (voiceCount st) v
 
