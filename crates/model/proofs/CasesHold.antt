@@ -33,9 +33,9 @@ use Rattle.model.specs.Input.{inputIn}
 use Rattle.model.specs.Lanes.{inGroup, sounding, inSpan}
 use Rattle.model.specs.RouteValue.{routeValue, plain}
 use Rattle.model.specs.Sums.{offsets, somePlain, allPlain, plains, others, tickSum, audioSum}
-use Rattle.model.specs.Slews.{fillFrom, slewsTo, newSlews}
-use Rattle.model.specs.Tick.{newRow, newFrom, turn, turns, tickOf}
-use Rattle.model.specs.Audio.{newAudioRow, audioFrame, audioFrames, audioPlans, audioOf}
+use Rattle.model.specs.Slews.{sourceAfter, auxAfter}
+use Rattle.model.specs.Tick.{fillFrom, putSlews, newTo, newFrom, turn, turns, tickOf}
+use Rattle.model.specs.Audio.{newAudio, audioFrame, audioFrames, audioPlans, audioOf}
 use Rattle.model.specs.Chunks.{chunkTotal, chunkOf, chunkList}
 use Rattle.model.specs.World.{heldBy, loadBy}
 use Rattle.model.specs.States.{withVoices, withMarks, withVelocity, withKey, withGains, withDraw, withAlternate, withLimit, withPhase, withBlock, withPrimed, withProgram, putState, putHeld, putGlobals, putBases, putValues, putAudio}
@@ -69,7 +69,7 @@ unfolding case4 chunkList chunkTotal chunkOf
 holds4 = refl
 
 holds5 : Holds case5
-unfolding case5 chunkList process judged chunkSteps chunkStep tickOf turns turn newRow newFrom newSlews slewsTo fillFrom tickSum others plains offsets somePlain plain routeValue inputIn inGroup sounding inSpan planAt routeAt partOf sampleIn fill part onPart rowsOfChunk audioOf audioPlans glided movedHeld advanced joined moving movedValue movedGlide chunkTotal chunkOf loadBy activeCount drawRoutes putState putHeld putGlobals putValues putAudio withVelocity withKey withMarks withPhase withBlock withPrimed withGains withProgram withDraw marksCleared marksSwapped noMarks noVoices noNotes freshState emptyOf swapProgram compiled padded targetPlace verdict verdictsFrom verdicts candidates skippedOf inUse countedFeed usedDests feederOf readersOf reads hearsAudio isAudio controls audios planOrder order slewFor inputBy routeBy routeIn planBy plansOf allRoutes secondsOf ratePerSample namesTable anyNames slotNames hold max32 min32 isNan lt le eq add sub mul div ofInt setHeld setVoiceHeld setBase setAmount setOutput setVoiceLimit noteOn noteOff voiceEnded run doneBy noteCurve randomsSet alternates soundedOn ranksOn endedOf newestAfter marksOn marksEnded setNote setValue setGlide legatoTime endedNote arrives glideMoved heldBy drawVoices withVoices withAlternate withLimit putBases lookupOf position cellOf reach moved slewStep step scrambled drawBits drawOf rowAt onRow keptAmount keptOutput clampTo finite ne neg toBits toUnsigned audioFrame audioFrames newAudioRow audioSum allPlain fromPart toPart isSounding absOf
+unfolding case5 chunkList process judged chunkSteps chunkStep tickOf turns turn newTo newFrom sourceAfter auxAfter putSlews fillFrom tickSum others plains offsets somePlain plain routeValue inputIn inGroup sounding inSpan planAt routeAt partOf sampleIn fill part onPart rowsOfChunk audioOf audioPlans glided movedHeld advanced joined moving movedValue movedGlide chunkTotal chunkOf loadBy activeCount drawRoutes putState putHeld putGlobals putValues putAudio withVelocity withKey withMarks withPhase withBlock withPrimed withGains withProgram withDraw marksCleared marksSwapped noMarks noVoices noNotes freshState emptyOf swapProgram compiled padded targetPlace verdict verdictsFrom verdicts candidates skippedOf inUse countedFeed usedDests feederOf readersOf reads hearsAudio isAudio controls audios planOrder order slewFor inputBy routeBy routeIn planBy plansOf allRoutes secondsOf ratePerSample namesTable anyNames slotNames hold max32 min32 isNan lt le eq add sub mul div ofInt setHeld setVoiceHeld setBase setAmount setOutput setVoiceLimit noteOn noteOff voiceEnded run doneBy noteCurve randomsSet alternates soundedOn ranksOn endedOf newestAfter marksOn marksEnded setNote setValue setGlide legatoTime endedNote arrives glideMoved heldBy drawVoices withVoices withAlternate withLimit putBases lookupOf position cellOf reach moved slewStep step scrambled drawBits drawOf rowAt onRow keptAmount keptOutput clampTo finite ne neg toBits toUnsigned audioFrame audioFrames newAudio audioSum allPlain fromPart toPart isSounding absOf
 holds5 = refl
 
 holds6 : Holds case6
@@ -89,7 +89,7 @@ unfolding case9 compiled padded targetPlace verdict verdictsFrom verdicts candid
 holds9 = refl
 
 holds10 : Holds case10
-unfolding case10 chunkList process judged chunkSteps chunkStep tickOf turns turn newRow newFrom newSlews slewsTo fillFrom tickSum others plains offsets somePlain plain routeValue inputIn inGroup sounding inSpan planAt routeAt partOf sampleIn fill part onPart rowsOfChunk audioOf audioPlans glided movedHeld advanced joined moving movedValue movedGlide chunkTotal chunkOf loadBy activeCount drawRoutes putState putHeld putGlobals putValues putAudio withVelocity withKey withMarks withPhase withBlock withPrimed withGains withProgram withDraw marksCleared marksSwapped noMarks noVoices noNotes freshState emptyOf swapProgram compiled padded targetPlace verdict verdictsFrom verdicts candidates skippedOf inUse countedFeed usedDests feederOf readersOf reads hearsAudio isAudio controls audios planOrder order slewFor inputBy routeBy routeIn planBy plansOf allRoutes secondsOf ratePerSample namesTable anyNames slotNames hold max32 min32 isNan lt le eq add sub mul div ofInt setHeld setVoiceHeld setBase setAmount setOutput setVoiceLimit noteOn noteOff voiceEnded run doneBy noteCurve randomsSet alternates soundedOn ranksOn endedOf newestAfter marksOn marksEnded setNote setValue setGlide legatoTime endedNote arrives glideMoved heldBy drawVoices withVoices withAlternate withLimit putBases lookupOf position cellOf reach moved slewStep step scrambled drawBits drawOf rowAt onRow keptAmount keptOutput clampTo finite ne neg toBits toUnsigned audioFrame audioFrames newAudioRow audioSum allPlain fromPart toPart isSounding absOf
+unfolding case10 chunkList process judged chunkSteps chunkStep tickOf turns turn newTo newFrom sourceAfter auxAfter putSlews fillFrom tickSum others plains offsets somePlain plain routeValue inputIn inGroup sounding inSpan planAt routeAt partOf sampleIn fill part onPart rowsOfChunk audioOf audioPlans glided movedHeld advanced joined moving movedValue movedGlide chunkTotal chunkOf loadBy activeCount drawRoutes putState putHeld putGlobals putValues putAudio withVelocity withKey withMarks withPhase withBlock withPrimed withGains withProgram withDraw marksCleared marksSwapped noMarks noVoices noNotes freshState emptyOf swapProgram compiled padded targetPlace verdict verdictsFrom verdicts candidates skippedOf inUse countedFeed usedDests feederOf readersOf reads hearsAudio isAudio controls audios planOrder order slewFor inputBy routeBy routeIn planBy plansOf allRoutes secondsOf ratePerSample namesTable anyNames slotNames hold max32 min32 isNan lt le eq add sub mul div ofInt setHeld setVoiceHeld setBase setAmount setOutput setVoiceLimit noteOn noteOff voiceEnded run doneBy noteCurve randomsSet alternates soundedOn ranksOn endedOf newestAfter marksOn marksEnded setNote setValue setGlide legatoTime endedNote arrives glideMoved heldBy drawVoices withVoices withAlternate withLimit putBases lookupOf position cellOf reach moved slewStep step scrambled drawBits drawOf rowAt onRow keptAmount keptOutput clampTo finite ne neg toBits toUnsigned audioFrame audioFrames newAudio audioSum allPlain fromPart toPart isSounding absOf
 holds10 = refl
 
 holds11 : Holds case11

@@ -84,7 +84,7 @@ last-from g t found (d ∷ l) a named h = go (which (sameThing (g d .feed) t)) (
         inr (rw e (omega (arith, hit-same d)), rw e s)
 
 -- a counted feed makes a destination control
-fed-control : (b t : Base) (audio : Bool) → sameThing b t ≡ true → unlessFed b audio ≡ false
+pub fed-control : (b t : Base) (audio : Bool) → sameThing b t ≡ true → unlessFed b audio ≡ false
 fed-control B.Set B.Set audio h = cc
 fed-control B.Set (B.Held j) audio h = cc
 fed-control B.Set (B.Amount j) audio h = cc

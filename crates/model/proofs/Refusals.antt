@@ -26,7 +26,7 @@ use Rattle.model.specs.Process.{processRows, process}
 use Rattle.model.specs.Settings.{Done, doneBy, heldRows, heldWorld, voiceHeldRows, baseRows, gainRows, withAmount, withOutput, setHeld, setVoiceHeld, setBase, setAmount, setOutput, setVoiceLimit, swapProgram, refusedState, newRows, freshWorld, newEngine, bindSignal}
 use Rattle.model.specs.Outputs.{readingNumber, rampedNumber, readBy, valuesShort, isControlPlan, ramped, rampOf, rampLength, latestAll}
 use Rattle.model.specs.NoteCalls.{voiceRow, Note, noteOnRows, notedOn, noteOffRows, releasedTo, voiceEndedRows, ended, noteOn, noteOff, voiceEnded}
-use Rattle.model.specs.Calls.{Call, held-set, voice-held-set, base-set, amount-set, output-set, limit-set, note-on, note-off, voice-ended, swap, block, read, Runner, onWorld, programAt, called, codeOf, rowsOf}
+use Rattle.model.specs.Calls.{Call, held-set, voice-held-set, base-set, amount-set, output-set, limit-set, note-on, note-off, voice-ended, swap, block, program-memory, engine-memory, read, Runner, onWorld, programAt, called, codeOf, rowsOf}
 
 -- the number of a call is what its rows say
 pub code-judged : (c : Call) (r : Runner) → codeOf c r ≡ judged (rowsOf c r)
@@ -42,6 +42,8 @@ code-judged (note-off v x) r = refl
 code-judged (voice-ended v) r = refl
 code-judged (swap k) r = refl
 code-judged (block samples signals start end) r = refl
+code-judged (program-memory k values audio tables) r = refl
+code-judged (engine-memory held globals bases) r = refl
 code-judged read r = refl
 
 -- the first row that applies
@@ -110,6 +112,8 @@ refused-leaves (note-off v x) r h = ap (onWorld r) (note-off-refused (r .world) 
 refused-leaves (voice-ended v) r h = ap (onWorld r) (ended-refused (r .world) v h)
 refused-leaves (swap k) r h = simp (ne-eqb (swapProgram (r .world .state) (programAt r k) .code) 0 h)
 refused-leaves (block samples signals start end) r h = ap (onWorld r) (block-refused (r .world) samples signals start end h)
+refused-leaves (program-memory k values audio tables) r h = absurd (h refl)
+refused-leaves (engine-memory held globals bases) r h = absurd (h refl)
 refused-leaves read r h = absurd (h refl)
 
 -- ---- the calls that make an engine, bind a signal, or write what is read

@@ -4,39 +4,36 @@ use mathlib.Core.List.{List}
 use Prim.Native.Nat.{ℕ, zero, suc, _+_, _-_}
 use lib.Dec.{eqb, ltb}
 use lib.Ieee.{Float, inf, lt}
-use Rattle.list.specs.Fill.{fill}
-use Rattle.list.specs.Part.{part, onPart}
 use Rattle.number.specs.Number.{one32, hold}
 use Rattle.state.specs.declared.Chunk.{Chunk}
-use Rattle.model.specs.Counts.{frameCount, planTotal, controlTotal, planAt, at}
-use Rattle.model.specs.Env.{Env, Rows, stride}
+use Rattle.state.specs.declared.State.{State}
+use Rattle.model.specs.Counts.{frameCount, strideOf, planTotal, controlTotal, planAt, at}
+use Rattle.model.specs.Env.{Env, Rows, Own}
+use Rattle.model.specs.Mix.{Mix, planMix}
 use Rattle.model.specs.Lanes.{inSpan}
-use Rattle.model.specs.Layout.{audioRow}
+use Rattle.model.specs.Layout.{planWidth, audioRow}
 use Rattle.model.specs.Sums.{hasPlain, allPlain, audioSum}
-use Rattle.model.specs.Slews.{newSlews}
-use Rattle.model.specs.Tick.{widthOf, rowsOf, ownOf, putOwn}
+use Rattle.model.specs.Slews.{sourceAfter, auxAfter}
+use Rattle.model.specs.Tick.{widthOf, fillFrom, lanesFrom, rowsOf, ownOf, putSlews, slewAfter}
 
 -- "In audio two infinite bounds hold nothing" (engine.rs 948-949)
-abbrev pub bounded : Env → ℕ → Bool
-bounded t d = lt (inf true) (planAt (t .state) d .min) || lt (planAt (t .state) d .max) (inf false)
+abbrev pub bounded : Mix → Bool
+bounded x = lt (inf true) (x .min) || lt (x .max) (inf false)
 
--- every route of the plan is plain, and there are some
-abbrev pub wholePlain : Env → ℕ → Bool
-wholePlain t d = hasPlain t d && allPlain t d (planAt (t .state) d .count)
+-- every route is plain, and there are some
+abbrev pub wholePlain : Env → Mix → Bool
+wholePlain t x = hasPlain t x && allPlain t x (x .count)
 
 -- old audio outside the span is held "unless all routes are plain"
-abbrev pub holds : Env → ℕ → ℕ → Bool
-holds t d l = bounded t d && (not (wholePlain t d) || inSpan t l)
+abbrev pub holds : Env → Mix → ℕ → Bool
+holds t x l = bounded x && (not (wholePlain t x) || inSpan t l)
 
-abbrev pub audioLane : Env → Rows → List Float → ℕ → List Float → ℕ → Float
-audioLane t f s d old l =
-    let x = audioSum t f s d (at old l) l in
-    cond (holds t d l) (hold (planAt (t .state) d .min) (planAt (t .state) d .max) x) x
-
--- the row of plan d at the frame; old: what stood there
-unfoldable pub newAudioRow : Env → ℕ → List Float → Rows → List Float → List Float
-unfolding fill audioSum allPlain inSpan
-newAudioRow t d s f old = fill old (audioLane t f s d old) (widthOf t d)
+-- THE NUMBER in lane l at the frame; old: what stood in the lanes
+unfoldable pub newAudio : Env → Mix → Rows → Own → (ℕ → Float) → ℕ → Float
+unfolding audioSum allPlain inSpan
+newAudio t x f s old l =
+    let y = audioSum t f s x (old l) l in
+    cond (holds t x l) (hold (x .min) (x .max) y) y
 
 -- ---- in the lent memories
 
@@ -44,26 +41,31 @@ pub record Sounds : Type 0 where
   pub values : List Float
   pub audio : List Float
 
-abbrev pub rowStart : Env → ℕ → ℕ → ℕ
-rowStart t d k = audioRow (stride t) (frameCount (t .state)) d (widthOf t d) k
+abbrev pub rowStart : State → ℕ → ℕ → ℕ
+rowStart st d k = audioRow (strideOf st) (frameCount st) d (planWidth (strideOf st) (planAt st d .voice)) k
 
--- frame k of plan d: its row, then its slews
-unfoldable pub audioFrame : Env → ℕ → Sounds → Sounds
-unfolding part onPart newAudioRow newSlews
-audioFrame t d m =
-    let a = rowStart t d (t .frame) in
-    let s = ownOf t (m .values) d in
-    let f = rowsOf t (m .values) in
+-- the frame of plan d: its row, and its slews
+unfoldable pub audioFrame : State → Env → ℕ → Sounds → Sounds
+unfolding fillFrom putSlews newAudio sourceAfter auxAfter
+audioFrame st t d m =
+    let x = planMix st d in
+    let f = rowsOf st (m .values) in
+    let s = ownOf st (m .values) d in
+    let a = rowStart st d (t .frame) in
     record {
-      values = putOwn t (m .values) d (newSlews t d s f);
-      audio = onPart (m .audio) a (a + widthOf t d) (newAudioRow t d s f (part (m .audio) a (a + widthOf t d)));
+      values = putSlews st d (slewAfter t x f s) (planAt st d .count) (m .values);
+      audio = fillFrom (m .audio) a (newAudio t x f s (lanesFrom (m .audio) a)) (widthOf t x);
     }
 
 -- t at frame k of a chunk that ends at `end`: fresh lanes snap at the chunk's first frame
 abbrev pub atFrame : Env → ℕ → ℕ → Bool → Env
 atFrame t k end snap =
     record {
-      state = t .state;
+      stride = t .stride;
+      voices = t .voices;
+      fresh = t .fresh;
+      gains = t .gains;
+      primed = t .primed;
       held = t .held;
       globals = t .globals;
       bases = t .bases;
@@ -77,18 +79,19 @@ atFrame t k end snap =
     }
 
 -- the first n frames of the chunk, of plan d; snap: of the chunk
-unfoldable pub audioFrames : Env → Chunk → ℕ → ℕ → Sounds → Sounds
+unfoldable pub audioFrames : State → Env → Chunk → ℕ → ℕ → Sounds → Sounds
 unfolding audioFrame
-audioFrames t c d zero m = m
-audioFrames t c d (suc n) m = audioFrame (atFrame t (c .start + n) (c .start + c .len) (t .snap && eqb n 0)) d (audioFrames t c d n m)
+audioFrames st t c d zero m = m
+audioFrames st t c d (suc n) m =
+    audioFrame st (atFrame t (c .start + n) (c .start + c .len) (t .snap && eqb n 0)) d (audioFrames st t c d n m)
 
 -- the first k audio plans
-unfoldable pub audioPlans : Env → Chunk → ℕ → Sounds → Sounds
+unfoldable pub audioPlans : State → Env → Chunk → ℕ → Sounds → Sounds
 unfolding audioFrames
-audioPlans t c zero m = m
-audioPlans t c (suc k) m = audioFrames t c (controlTotal (t .state .program) + k) (c .len) (audioPlans t c k m)
+audioPlans st t c zero m = m
+audioPlans st t c (suc k) m = audioFrames st t c (controlTotal (st .program) + k) (c .len) (audioPlans st t c k m)
 
 -- THE AUDIO of a chunk
-unfoldable pub audioOf : Env → Chunk → Sounds → Sounds
+unfoldable pub audioOf : State → Env → Chunk → Sounds → Sounds
 unfolding audioPlans
-audioOf t c m = audioPlans t c (planTotal (t .state .program) - controlTotal (t .state .program)) m
+audioOf st t c m = audioPlans st t c (planTotal (st .program) - controlTotal (st .program)) m

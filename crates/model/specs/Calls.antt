@@ -2,8 +2,8 @@
 use mathlib.Core.Bool.{Bool, true, false, not, cond, _&&_, _||_}
 use mathlib.Core.List.{List, [], _∷_, _++_}
 use Prim.Native.Nat.{ℕ, _*_}
-use lib.Dec.{eqb}
-use lib.ListN.{getD, set, replicate}
+use lib.Dec.{eqb, ltb}
+use lib.ListN.{length, getD, set, replicate}
 use lib.Ieee.{Float}
 use Rattle.number.specs.Number.{zero32}
 use Rattle.config.specs.declared.Config.{Config}
@@ -35,6 +35,10 @@ pub data Call : Type 0 where
   swap : ℕ → Call
   -- samples, signals and a range
   block : List Float → Signals → ℕ → ℕ → Call
+  -- the memories of a program arrive otherwise: its number, values, audio rows, tables
+  program-memory : ℕ → List Float → List Float → List Float → Call
+  -- held numbers, global numbers and bases arrive otherwise
+  engine-memory : List Float → List Float → List Float → Call
   -- a call that only reads
   read : Call
 
@@ -112,10 +116,31 @@ keptAt r k = getD (r .kept) k (noKept (r .world .state .config))
 abbrev pub programAt : Runner → ℕ → Program
 programAt r k = keptAt r k .program
 
--- a number that is installed already changes nothing
+-- a number that is installed already, or names no program, changes nothing
 abbrev pub swapped : Runner → ℕ → Runner
 swapped r k =
-    cond (eqb (swapProgram (r .world .state) (programAt r k) .code) 0) (cond (eqb k (r .installed)) r (exchanged r k (keptAt r k))) r
+    cond (eqb (swapProgram (r .world .state) (programAt r k) .code) 0)
+    (cond (eqb k (r .installed) || not (ltb k (length (r .kept)))) r (exchanged r k (keptAt r k)))
+    r
+
+-- ---- a memory that arrives otherwise
+
+abbrev pub lentValues : World → List Float → List Float → List Float → World
+lentValues w values audio tables =
+    record { state = w .state; held = w .held; globals = w .globals; bases = w .bases; values = values; audio = audio; tables = tables }
+
+abbrev pub programArrives : Runner → ℕ → List Float → List Float → List Float → Runner
+programArrives r k values audio tables =
+    cond (eqb k (r .installed)) (onWorld r (lentValues (r .world) values audio tables))
+    (record {
+      world = r .world;
+      kept = set (r .kept) k (record { program = programAt r k; values = values; audio = audio; tables = tables });
+      installed = r .installed;
+    })
+
+abbrev pub engineArrives : World → List Float → List Float → List Float → World
+engineArrives w held globals bases =
+    record { state = w .state; held = held; globals = globals; bases = bases; values = w .values; audio = w .audio; tables = w .tables }
 
 -- one call
 abbrev pub called : Call → Runner → Runner
@@ -130,6 +155,8 @@ called (note-off v x) r = onWorld r (noteOff (r .world) v x .world)
 called (voice-ended v) r = onWorld r (voiceEnded (r .world) v .world)
 called (swap k) r = swapped r k
 called (block samples signals start end) r = onWorld r (process (r .world) samples signals start end .world)
+called (program-memory k values audio tables) r = programArrives r k values audio tables
+called (engine-memory held globals bases) r = onWorld r (engineArrives (r .world) held globals bases)
 called read r = r
 
 -- ---- the number that a call hands back, and its rows in the order in which they are judged
@@ -146,6 +173,8 @@ codeOf (note-off v x) r = noteOff (r .world) v x .code
 codeOf (voice-ended v) r = voiceEnded (r .world) v .code
 codeOf (swap k) r = swapProgram (r .world .state) (programAt r k) .code
 codeOf (block samples signals start end) r = process (r .world) samples signals start end .code
+codeOf (program-memory k values audio tables) r = 0
+codeOf (engine-memory held globals bases) r = 0
 codeOf read r = 0
 
 abbrev pub rowsOf : Call → Runner → List Row
@@ -160,6 +189,8 @@ rowsOf (note-off v x) r = noteOffRows (r .world) v x
 rowsOf (voice-ended v) r = voiceEndedRows (r .world) v
 rowsOf (swap k) r = swapRows (r .world .state) (programAt r k)
 rowsOf (block samples signals start end) r = processRows (r .world) samples signals end
+rowsOf (program-memory k values audio tables) r = []
+rowsOf (engine-memory held globals bases) r = []
 rowsOf read r = []
 
 -- a list of calls, one after the other

@@ -1,21 +1,31 @@
--- What a value in one lane is worked out from: everything that is read and not written while one plan is worked out, at one frame (engine.rs 781-794). Definitions only.
+-- What a value in one lane is worked out from: everything that is read and not written while one destination is worked out, at one frame (engine.rs 781-794). No program
+-- and no plan stands in it. Definitions only.
 use mathlib.Core.Bool.{Bool, true, false, not, cond, _&&_}
 use mathlib.Core.List.{List}
 use Prim.Native.Nat.{ℕ, _+_, _*_, max}
 use lib.Dec.{ltb}
 use lib.ListN.{getD}
-use lib.Ieee.{Float}
+use lib.Ieee.{Float, nan}
 use Rattle.number.specs.Number.{zero32, times}
+use Rattle.voice.specs.declared.Voices.{Voices}
 use Rattle.state.specs.declared.Base.{Base}
 use Rattle.state.specs.declared.Base.the-variants as B
+use Rattle.state.specs.declared.Gains.{Gains}
 use Rattle.state.specs.declared.Route.{Route}
 use Rattle.state.specs.declared.SignalPart.{SignalPart}
 use Rattle.state.specs.declared.Signals.{Signals}
-use Rattle.state.specs.declared.State.{State}
-use Rattle.model.specs.Counts.{strideOf, planAt, routeAt, at}
+use Rattle.model.specs.Counts.{at}
 
 pub record Env : Type 0 where
-  pub state : State
+  -- the lane stride
+  pub stride : ℕ
+  pub voices : Voices
+  -- the voices that started since the last block
+  pub fresh : List Bool
+  -- amounts and outputs as set
+  pub gains : Gains
+  -- the program has ticked since it was installed
+  pub primed : Bool
   pub held : List Float
   pub globals : List Float
   pub bases : List Float
@@ -29,25 +39,26 @@ pub record Env : Type 0 where
   pub steps : Float
   pub snap : Bool
 
--- the rows that fed inputs read: that of plan i
+-- control values that fed inputs read: of plan or destination e, in a lane
 abbrev pub Rows : Type 0
-Rows = ℕ → List Float
+Rows = ℕ → ℕ → Float
 
-abbrev pub stride : Env → ℕ
-stride t = strideOf (t .state)
+-- the own numbers of the routes of one destination: of its route j the row q, in a lane. Rows 0 and 1 are the slews of source and aux, 2 and 3 the random inputs of source and aux
+abbrev pub Own : Type 0
+Own = ℕ → ℕ → ℕ → Float
 
--- route j of plan d
-abbrev pub routeOf : Env → ℕ → ℕ → Route
-routeOf t d j = routeAt (t .state) (planAt (t .state) d .first + j)
+-- a lane of a row; there is none beyond the stride
+abbrev pub laneIn : Env → (ℕ → Float) → ℕ → Float
+laneIn t row lane = cond (ltb lane (t .stride)) (row lane) nan
 
 abbrev pub isFresh : Env → ℕ → Bool
-isFresh t lane = getD (t .state .marks .fresh) lane false
+isFresh t lane = getD (t .fresh) lane false
 
 abbrev pub liveAmount : Env → ℕ → Float
-liveAmount t slot = at (t .state .gains .amount) slot
+liveAmount t slot = at (t .gains .amount) slot
 
 abbrev pub liveOutput : Env → ℕ → Float
-liveOutput t slot = at (t .state .gains .output) slot
+liveOutput t slot = at (t .gains .output) slot
 
 -- the product of a slot's amount and output as set (engine.rs 588-592)
 abbrev pub gainOf : Env → Route → Float

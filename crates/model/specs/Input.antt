@@ -14,22 +14,22 @@ use Rattle.state.specs.declared.Slew.the-variants as L
 use Rattle.state.specs.declared.Input.{Input}
 use Rattle.tables.specs.Tables.{slotPlace}
 use Rattle.model.specs.Counts.{at}
-use Rattle.model.specs.Env.{Env, Rows, stride, partOf, sampleIn}
+use Rattle.model.specs.Env.{Env, Rows, laneIn, partOf, sampleIn}
 
 -- the lane of a row that has one for each voice, or only one
 abbrev pub own : Bool → ℕ → ℕ
 own voice lane = cond voice lane 0
 
 -- a fed read: the feeder's row
-abbrev pub fedAt : Rows → ℕ → Bool → ℕ → Float
-fedAt f plan voice lane = at (f plan) (own voice lane)
+abbrev pub fedAt : Env → Rows → ℕ → Bool → ℕ → Float
+fedAt t f e voice lane = laneIn t (f e) (own voice lane)
 
 -- what an input reads; random: the random number of this input in this lane
 abbrev pub readIn : Env → Rows → Float → ℕ → Read → Float
 readIn t f random lane (D.Signal src voice) = sampleIn (t .samples) (partOf (t .signals) src) (t .frame) voice lane
-readIn t f random lane (D.Held src true) = at (t .held) (src * stride t + lane)
+readIn t f random lane (D.Held src true) = at (t .held) (src * t .stride + lane)
 readIn t f random lane (D.Held src false) = at (t .globals) src
-readIn t f random lane (D.Fed plan voice) = fedAt f plan voice lane
+readIn t f random lane (D.Fed e voice) = fedAt t f e voice lane
 readIn t f random lane D.Constant = one32
 readIn t f random lane D.RouteRandom = random
 

@@ -9,7 +9,7 @@ use Rattle.config.specs.Sizes.{lanes}
 use Rattle.number.specs.Number.{zero32, one32}
 use Rattle.voice.specs.declared.Newest.{Newest}
 use Rattle.voice.specs.declared.Newest.the-variants as N
-use Rattle.model.specs.Env.{Env, stride, isFresh}
+use Rattle.model.specs.Env.{Env, isFresh}
 
 -- one of the marks k .. k + c - 1 is set
 abbrev pub anyFrom : List Bool → ℕ → ℕ → Bool
@@ -21,7 +21,7 @@ abbrev pub groupOf : ℕ → ℕ
 groupOf lane = lane / lanes * lanes
 
 abbrev pub marks : Env → List Bool
-marks t = t .state .voices .active
+marks t = t .voices .active
 
 -- the lane's group has an active voice
 unfoldable pub inGroup : Env → ℕ → Bool
@@ -29,11 +29,11 @@ inGroup t lane = anyFrom (marks t) (groupOf lane) lanes
 
 -- a voice is active
 unfoldable pub sounding : Env → Bool
-sounding t = anyFrom (marks t) 0 (stride t)
+sounding t = anyFrom (marks t) 0 (t .stride)
 
 -- the lane's group lies in the active span: from the first group with an active voice to the last
 unfoldable pub inSpan : Env → ℕ → Bool
-inSpan t lane = anyFrom (marks t) 0 (groupOf lane + lanes) && anyFrom (marks t) (groupOf lane) (stride t - groupOf lane)
+inSpan t lane = anyFrom (marks t) 0 (groupOf lane + lanes) && anyFrom (marks t) (groupOf lane) (t .stride - groupOf lane)
 
 -- a lane, or none
 pub data Lane : Type 0 where
@@ -52,7 +52,7 @@ newestLane (N.Voice v) = lane v
 abbrev pub addend : Env → Bool → Bool → ℕ → Lane
 addend t true true l = laneIf (inGroup t l) l
 addend t true false l = laneIf (inGroup t l) 0
-addend t false true l = newestLane (t .state .voices .newest)
+addend t false true l = newestLane (t .voices .newest)
 addend t false false l = lane 0
 
 abbrev pub sameGroup : ℕ → Lane → Bool
@@ -62,7 +62,7 @@ sameGroup l nowhere = false
 -- the lanes in which the route is worked out, so that its slews move: whole groups
 abbrev pub worked : Env → Bool → Bool → ℕ → Bool
 worked t true true l = inGroup t l
-worked t false true l = sameGroup l (newestLane (t .state .voices .newest))
+worked t false true l = sameGroup l (newestLane (t .voices .newest))
 worked t true false l = ltb l lanes
 worked t false false l = ltb l lanes
 

@@ -8,6 +8,7 @@ pub mod Layout
 pub mod Compile
 pub mod Counts
 pub mod Env
+pub mod Mix
 pub mod Input
 pub mod Lanes
 pub mod RouteValue
@@ -23,5 +24,8 @@ pub mod Settings
 pub mod NoteCalls
 pub mod Outputs
 pub mod Calls
+pub mod Rule
+pub mod Model
+pub mod Claim
 mod CompiledExamples
 mod SessionExamples

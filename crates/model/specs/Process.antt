@@ -9,7 +9,6 @@ use lib.Ieee.{Float}
 use Rattle.config.specs.Sizes.{period, mostSignalStride}
 use Rattle.draw.specs.Xorshift.{step, drawOf}
 use Rattle.judge.specs.Judge.{Row, _when_, judged}
-use Rattle.list.specs.Part.{part, onPart}
 use Rattle.number.specs.Number.{zero32, one32, over, min32, nearest32}
 use Rattle.voice.specs.declared.Notes.{Notes}
 use Rattle.voice.specs.Voices.{activeCount}
@@ -30,7 +29,7 @@ use Rattle.model.specs.Need.{valuesNeed, audioNeed}
 use Rattle.model.specs.Counts.{voiceCount, frameCount, strideOf, chunksMost, engineSources, engineDests, planTotal, controlTotal, routeTotal, phaseOf, planAt, routeAt}
 use Rattle.model.specs.Env.{Env}
 use Rattle.model.specs.Layout.{planWidth, planFrom, planTo, chunkFrom, chunkTo, routeRandom}
-use Rattle.model.specs.Tick.{offPhase, tickOf}
+use Rattle.model.specs.Tick.{offPhase, fillFrom, lanesFrom, tickOf}
 use Rattle.model.specs.Audio.{Sounds, audioOf}
 use Rattle.model.specs.Chunks.{chunkTotal, chunkOf, chunkList}
 use Rattle.model.specs.World.{World, heldOf, isVelocity, isKey, loadBy}
@@ -147,7 +146,11 @@ drawn w =
 abbrev pub envOf : World → List Float → Signals → Chunk → Bool → Env
 envOf w samples signals c snap =
     record {
-      state = w .state;
+      stride = strideOf (w .state);
+      voices = w .state .voices;
+      fresh = w .state .marks .fresh;
+      gains = w .state .gains;
+      primed = w .state .primed;
       held = w .held;
       globals = w .globals;
       bases = w .bases;
@@ -160,12 +163,17 @@ envOf w samples signals c snap =
       snap = snap;
     }
 
+-- fresh lanes snap in the first chunk
+abbrev pub snapOf : ℕ → World → Bool
+snapOf i w = eqb i 0 && w .state .marks .«any_fresh»
+
 -- control values change at a tick, and the program is then primed
+abbrev pub primedWith : World → List Float → World
+primedWith w m = putState (putValues w m) (withPrimed (w .state) true)
+
 abbrev pub ticked : List Float → Signals → Chunk → Bool → World → World
 ticked samples signals c snap w =
-    cond (c .tick)
-    (putState (putValues w (tickOf (envOf w samples signals c snap) (c .phase) (w .values))) (withPrimed (w .state) true))
-    w
+    cond (c .tick) (primedWith w (tickOf (w .state) (envOf w samples signals c snap) (c .phase) (w .values))) w
 
 -- the rows of the chunk, number i, of the first n control plans (engine.rs 934-939)
 abbrev pub rowOfChunk : State → ℕ → ℕ → List Float → List Float
@@ -173,11 +181,11 @@ rowOfChunk st i d m =
     let s = strideOf st in
     let c = chunksMost st in
     let v = planWidth s (planAt st d .voice) in
-    let from = onPart m (chunkFrom s c d v i) (chunkFrom s c d v i + v) (part m (planFrom s c d) (planFrom s c d + v)) in
-    onPart from (chunkTo s c d v i) (chunkTo s c d v i + v) (part from (planTo s c d) (planTo s c d + v))
+    let from = fillFrom m (chunkFrom s c d v i) (lanesFrom m (planFrom s c d)) v in
+    fillFrom from (chunkTo s c d v i) (lanesFrom from (planTo s c d)) v
 
 unfoldable pub rowsOfChunk : State → ℕ → ℕ → List Float → List Float
-unfolding part onPart
+unfolding fillFrom
 rowsOfChunk st i zero m = m
 rowsOfChunk st i (suc n) m = rowOfChunk st i n (rowsOfChunk st i n m)
 
@@ -189,14 +197,16 @@ putSounds w m = putAudio (putValues w (m .values)) (m .audio)
 
 abbrev pub sounded : List Float → Signals → Chunk → Bool → World → World
 sounded samples signals c snap w =
-    putSounds w (audioOf (envOf w samples signals c snap) c (record { values = w .values; audio = w .audio }))
+    putSounds w (audioOf (w .state) (envOf w samples signals c snap) c (record { values = w .values; audio = w .audio }))
 
--- THE STEP of chunk i: tick, chunk rows, audio rows, glides
+-- what follows the tick: chunk rows, audio rows, glides
+abbrev pub afterTick : List Float → Signals → ℕ → Chunk → Bool → World → World
+afterTick samples signals i c snap w = glided (c .len) (sounded samples signals c snap (rowed i w))
+
+-- THE STEP of chunk i
 unfoldable pub chunkStep : List Float → Signals → ℕ → Chunk → World → World
 unfolding tickOf rowsOfChunk audioOf glided
-chunkStep samples signals i c w =
-    let snap = eqb i 0 && w .state .marks .«any_fresh» in
-    glided (c .len) (sounded samples signals c snap (rowed i (ticked samples signals c snap w)))
+chunkStep samples signals i c w = let snap = snapOf i w in afterTick samples signals i c snap (ticked samples signals c snap w)
 
 -- the first n chunks of a block
 unfoldable pub chunkSteps : List Float → Signals → Block → ℕ → World → World

@@ -48,9 +48,9 @@ use Rattle.model.specs.Input.{inputIn}
 use Rattle.model.specs.Lanes.{inGroup, sounding, inSpan}
 use Rattle.model.specs.RouteValue.{routeValue, plain}
 use Rattle.model.specs.Sums.{offsets, somePlain, allPlain, plains, others, tickSum, audioSum}
-use Rattle.model.specs.Slews.{fillFrom, slewsTo, newSlews}
-use Rattle.model.specs.Tick.{newRow, newFrom, turn, turns, tickOf}
-use Rattle.model.specs.Audio.{newAudioRow, audioFrame, audioFrames, audioPlans, audioOf}
+use Rattle.model.specs.Slews.{sourceAfter, auxAfter}
+use Rattle.model.specs.Tick.{fillFrom, putSlews, newTo, newFrom, turn, turns, tickOf}
+use Rattle.model.specs.Audio.{newAudio, audioFrame, audioFrames, audioPlans, audioOf}
 use Rattle.model.specs.Chunks.{chunkTotal, chunkOf, chunkList}
 use Rattle.model.specs.World.{World, heldBy, loadBy}
 use Rattle.model.specs.States.{withVoices, withMarks, withVelocity, withKey, withGains, withDraw, withAlternate, withLimit, withPhase, withBlock, withPrimed, withProgram, putState, putHeld, putGlobals, putBases, putValues, putAudio}
@@ -143,7 +143,7 @@ c0 : List (List Call)
 c0 = ((swap 1) ∷ (block ([]) (record { part = [] }) 0 5) ∷ []) ∷ ((block ([]) (record { part = [] }) 0 64) ∷ []) ∷ []
 
 e0 : reports c0 r0 ≡ (1056964608 ∷ 1056964608 ∷ []) ∷ (1056964608 ∷ 1056964608 ∷ 1056964608 ∷ 1056964608 ∷ 1056964608 ∷ 1056964608 ∷ []) ∷ []
-unfolding c0 r0 process judged chunkSteps chunkStep tickOf turns turn newRow newFrom newSlews slewsTo fillFrom tickSum others plains offsets somePlain plain routeValue inputIn inGroup sounding inSpan planAt routeAt partOf sampleIn fill part onPart rowsOfChunk audioOf audioPlans glided movedHeld advanced joined moving movedValue movedGlide chunkTotal chunkOf loadBy activeCount drawRoutes putState putHeld putGlobals putValues putAudio withVelocity withKey withMarks withPhase withBlock withPrimed withGains withProgram withDraw marksCleared marksSwapped noMarks noVoices noNotes freshState emptyOf swapProgram compiled padded targetPlace verdict verdictsFrom verdicts candidates skippedOf inUse countedFeed usedDests feederOf readersOf reads hearsAudio isAudio controls audios planOrder order slewFor inputBy routeBy routeIn planBy plansOf allRoutes secondsOf ratePerSample namesTable anyNames slotNames hold max32 min32 isNan lt le eq add sub mul div ofInt setHeld setVoiceHeld setBase setAmount setOutput setVoiceLimit noteOn noteOff voiceEnded run doneBy noteCurve randomsSet alternates soundedOn ranksOn endedOf newestAfter marksOn marksEnded setNote setValue setGlide legatoTime endedNote arrives glideMoved heldBy drawVoices withVoices withAlternate withLimit putBases lookupOf position cellOf partOfCell reach moved slewStep step scrambled drawBits drawOf rowAt onRow keptAmount keptOutput clampTo finite ne neg toBits toUnsigned audioFrame audioFrames newAudioRow audioSum allPlain fromPart toPart isSounding absOf
+unfolding c0 r0 process judged chunkSteps chunkStep tickOf turns turn newTo newFrom sourceAfter auxAfter putSlews fillFrom tickSum others plains offsets somePlain plain routeValue inputIn inGroup sounding inSpan planAt routeAt partOf sampleIn fill part onPart rowsOfChunk audioOf audioPlans glided movedHeld advanced joined moving movedValue movedGlide chunkTotal chunkOf loadBy activeCount drawRoutes putState putHeld putGlobals putValues putAudio withVelocity withKey withMarks withPhase withBlock withPrimed withGains withProgram withDraw marksCleared marksSwapped noMarks noVoices noNotes freshState emptyOf swapProgram compiled padded targetPlace verdict verdictsFrom verdicts candidates skippedOf inUse countedFeed usedDests feederOf readersOf reads hearsAudio isAudio controls audios planOrder order slewFor inputBy routeBy routeIn planBy plansOf allRoutes secondsOf ratePerSample namesTable anyNames slotNames hold max32 min32 isNan lt le eq add sub mul div ofInt setHeld setVoiceHeld setBase setAmount setOutput setVoiceLimit noteOn noteOff voiceEnded run doneBy noteCurve randomsSet alternates soundedOn ranksOn endedOf newestAfter marksOn marksEnded setNote setValue setGlide legatoTime endedNote arrives glideMoved heldBy drawVoices withVoices withAlternate withLimit putBases lookupOf position cellOf partOfCell reach moved slewStep step scrambled drawBits drawOf rowAt onRow keptAmount keptOutput clampTo finite ne neg toBits toUnsigned audioFrame audioFrames newAudio audioSum allPlain fromPart toPart isSounding absOf
 e0 = refl
 
 -- cases/05-constant.txt
@@ -164,7 +164,7 @@ c1 : List (List Call)
 c1 = ((base-set 0 (fin false 1 (negsuc 1))) ∷ (swap 1) ∷ (block ([]) (record { part = [] }) 0 64) ∷ []) ∷ []
 
 e1 : reports c1 r1 ≡ (1061158912 ∷ 1061158912 ∷ 1061158912 ∷ 1061158912 ∷ []) ∷ []
-unfolding c1 r1 process judged chunkSteps chunkStep tickOf turns turn newRow newFrom newSlews slewsTo fillFrom tickSum others plains offsets somePlain plain routeValue inputIn inGroup sounding inSpan planAt routeAt partOf sampleIn fill part onPart rowsOfChunk audioOf audioPlans glided movedHeld advanced joined moving movedValue movedGlide chunkTotal chunkOf loadBy activeCount drawRoutes putState putHeld putGlobals putValues putAudio withVelocity withKey withMarks withPhase withBlock withPrimed withGains withProgram withDraw marksCleared marksSwapped noMarks noVoices noNotes freshState emptyOf swapProgram compiled padded targetPlace verdict verdictsFrom verdicts candidates skippedOf inUse countedFeed usedDests feederOf readersOf reads hearsAudio isAudio controls audios planOrder order slewFor inputBy routeBy routeIn planBy plansOf allRoutes secondsOf ratePerSample namesTable anyNames slotNames hold max32 min32 isNan lt le eq add sub mul div ofInt setHeld setVoiceHeld setBase setAmount setOutput setVoiceLimit noteOn noteOff voiceEnded run doneBy noteCurve randomsSet alternates soundedOn ranksOn endedOf newestAfter marksOn marksEnded setNote setValue setGlide legatoTime endedNote arrives glideMoved heldBy drawVoices withVoices withAlternate withLimit putBases lookupOf position cellOf partOfCell reach moved slewStep step scrambled drawBits drawOf rowAt onRow keptAmount keptOutput clampTo finite ne neg toBits toUnsigned audioFrame audioFrames newAudioRow audioSum allPlain fromPart toPart isSounding absOf
+unfolding c1 r1 process judged chunkSteps chunkStep tickOf turns turn newTo newFrom sourceAfter auxAfter putSlews fillFrom tickSum others plains offsets somePlain plain routeValue inputIn inGroup sounding inSpan planAt routeAt partOf sampleIn fill part onPart rowsOfChunk audioOf audioPlans glided movedHeld advanced joined moving movedValue movedGlide chunkTotal chunkOf loadBy activeCount drawRoutes putState putHeld putGlobals putValues putAudio withVelocity withKey withMarks withPhase withBlock withPrimed withGains withProgram withDraw marksCleared marksSwapped noMarks noVoices noNotes freshState emptyOf swapProgram compiled padded targetPlace verdict verdictsFrom verdicts candidates skippedOf inUse countedFeed usedDests feederOf readersOf reads hearsAudio isAudio controls audios planOrder order slewFor inputBy routeBy routeIn planBy plansOf allRoutes secondsOf ratePerSample namesTable anyNames slotNames hold max32 min32 isNan lt le eq add sub mul div ofInt setHeld setVoiceHeld setBase setAmount setOutput setVoiceLimit noteOn noteOff voiceEnded run doneBy noteCurve randomsSet alternates soundedOn ranksOn endedOf newestAfter marksOn marksEnded setNote setValue setGlide legatoTime endedNote arrives glideMoved heldBy drawVoices withVoices withAlternate withLimit putBases lookupOf position cellOf partOfCell reach moved slewStep step scrambled drawBits drawOf rowAt onRow keptAmount keptOutput clampTo finite ne neg toBits toUnsigned audioFrame audioFrames newAudio audioSum allPlain fromPart toPart isSounding absOf
 e1 = refl
 
 -- cases/07-slew.txt
@@ -185,7 +185,7 @@ c2 : List (List Call)
 c2 = ((swap 1) ∷ (held-set 0 (fin false 1 (pos 0))) ∷ (block ([]) (record { part = [] }) 0 64) ∷ []) ∷ ((held-set 0 (fin false 0 (pos 0))) ∷ (block ([]) (record { part = [] }) 0 32) ∷ []) ∷ []
 
 e2 : reports c2 r2 ≡ (1056964608 ∷ 1056964608 ∷ 1056964608 ∷ 1065353216 ∷ []) ∷ (1065353216 ∷ 0 ∷ []) ∷ []
-unfolding c2 r2 process judged chunkSteps chunkStep tickOf turns turn newRow newFrom newSlews slewsTo fillFrom tickSum others plains offsets somePlain plain routeValue inputIn inGroup sounding inSpan planAt routeAt partOf sampleIn fill part onPart rowsOfChunk audioOf audioPlans glided movedHeld advanced joined moving movedValue movedGlide chunkTotal chunkOf loadBy activeCount drawRoutes putState putHeld putGlobals putValues putAudio withVelocity withKey withMarks withPhase withBlock withPrimed withGains withProgram withDraw marksCleared marksSwapped noMarks noVoices noNotes freshState emptyOf swapProgram compiled padded targetPlace verdict verdictsFrom verdicts candidates skippedOf inUse countedFeed usedDests feederOf readersOf reads hearsAudio isAudio controls audios planOrder order slewFor inputBy routeBy routeIn planBy plansOf allRoutes secondsOf ratePerSample namesTable anyNames slotNames hold max32 min32 isNan lt le eq add sub mul div ofInt setHeld setVoiceHeld setBase setAmount setOutput setVoiceLimit noteOn noteOff voiceEnded run doneBy noteCurve randomsSet alternates soundedOn ranksOn endedOf newestAfter marksOn marksEnded setNote setValue setGlide legatoTime endedNote arrives glideMoved heldBy drawVoices withVoices withAlternate withLimit putBases lookupOf position cellOf partOfCell reach moved slewStep step scrambled drawBits drawOf rowAt onRow keptAmount keptOutput clampTo finite ne neg toBits toUnsigned audioFrame audioFrames newAudioRow audioSum allPlain fromPart toPart isSounding absOf
+unfolding c2 r2 process judged chunkSteps chunkStep tickOf turns turn newTo newFrom sourceAfter auxAfter putSlews fillFrom tickSum others plains offsets somePlain plain routeValue inputIn inGroup sounding inSpan planAt routeAt partOf sampleIn fill part onPart rowsOfChunk audioOf audioPlans glided movedHeld advanced joined moving movedValue movedGlide chunkTotal chunkOf loadBy activeCount drawRoutes putState putHeld putGlobals putValues putAudio withVelocity withKey withMarks withPhase withBlock withPrimed withGains withProgram withDraw marksCleared marksSwapped noMarks noVoices noNotes freshState emptyOf swapProgram compiled padded targetPlace verdict verdictsFrom verdicts candidates skippedOf inUse countedFeed usedDests feederOf readersOf reads hearsAudio isAudio controls audios planOrder order slewFor inputBy routeBy routeIn planBy plansOf allRoutes secondsOf ratePerSample namesTable anyNames slotNames hold max32 min32 isNan lt le eq add sub mul div ofInt setHeld setVoiceHeld setBase setAmount setOutput setVoiceLimit noteOn noteOff voiceEnded run doneBy noteCurve randomsSet alternates soundedOn ranksOn endedOf newestAfter marksOn marksEnded setNote setValue setGlide legatoTime endedNote arrives glideMoved heldBy drawVoices withVoices withAlternate withLimit putBases lookupOf position cellOf partOfCell reach moved slewStep step scrambled drawBits drawOf rowAt onRow keptAmount keptOutput clampTo finite ne neg toBits toUnsigned audioFrame audioFrames newAudio audioSum allPlain fromPart toPart isSounding absOf
 e2 = refl
 
 -- cases/08-glide.txt
@@ -206,7 +206,7 @@ c3 : List (List Call)
 c3 = ((swap 1) ∷ (note-on 0 (record { key = (fin false 0 (pos 0)); velocity = (fin false 0 (pos 0)); legato = false; glide-seconds = (fin false 0 (pos 0)) })) ∷ (note-on 0 (record { key = (fin false 127 (pos 0)); velocity = (fin false 1 (pos 0)); legato = true; glide-seconds = (fin false 1 (pos 0)) })) ∷ (block ([]) (record { part = [] }) 0 32) ∷ []) ∷ ((block ([]) (record { part = [] }) 0 32) ∷ []) ∷ []
 
 e3 : reports c3 r3 ≡ (0 ∷ 0 ∷ 0 ∷ 0 ∷ 0 ∷ 0 ∷ 0 ∷ 0 ∷ 0 ∷ 0 ∷ 0 ∷ 0 ∷ 0 ∷ 0 ∷ 0 ∷ 0 ∷ 0 ∷ 0 ∷ 0 ∷ 0 ∷ 0 ∷ 0 ∷ 0 ∷ 0 ∷ 0 ∷ 0 ∷ 0 ∷ 0 ∷ 0 ∷ 0 ∷ 0 ∷ 0 ∷ []) ∷ (0 ∷ 0 ∷ 0 ∷ 0 ∷ 0 ∷ 0 ∷ 0 ∷ 0 ∷ 0 ∷ 0 ∷ 0 ∷ 0 ∷ 0 ∷ 0 ∷ 0 ∷ 0 ∷ 1056964608 ∷ 0 ∷ 0 ∷ 0 ∷ 0 ∷ 0 ∷ 0 ∷ 0 ∷ 0 ∷ 0 ∷ 0 ∷ 0 ∷ 0 ∷ 0 ∷ 0 ∷ 0 ∷ []) ∷ []
-unfolding c3 r3 process judged chunkSteps chunkStep tickOf turns turn newRow newFrom newSlews slewsTo fillFrom tickSum others plains offsets somePlain plain routeValue inputIn inGroup sounding inSpan planAt routeAt partOf sampleIn fill part onPart rowsOfChunk audioOf audioPlans glided movedHeld advanced joined moving movedValue movedGlide chunkTotal chunkOf loadBy activeCount drawRoutes putState putHeld putGlobals putValues putAudio withVelocity withKey withMarks withPhase withBlock withPrimed withGains withProgram withDraw marksCleared marksSwapped noMarks noVoices noNotes freshState emptyOf swapProgram compiled padded targetPlace verdict verdictsFrom verdicts candidates skippedOf inUse countedFeed usedDests feederOf readersOf reads hearsAudio isAudio controls audios planOrder order slewFor inputBy routeBy routeIn planBy plansOf allRoutes secondsOf ratePerSample namesTable anyNames slotNames hold max32 min32 isNan lt le eq add sub mul div ofInt setHeld setVoiceHeld setBase setAmount setOutput setVoiceLimit noteOn noteOff voiceEnded run doneBy noteCurve randomsSet alternates soundedOn ranksOn endedOf newestAfter marksOn marksEnded setNote setValue setGlide legatoTime endedNote arrives glideMoved heldBy drawVoices withVoices withAlternate withLimit putBases lookupOf position cellOf partOfCell reach moved slewStep step scrambled drawBits drawOf rowAt onRow keptAmount keptOutput clampTo finite ne neg toBits toUnsigned audioFrame audioFrames newAudioRow audioSum allPlain fromPart toPart isSounding absOf
+unfolding c3 r3 process judged chunkSteps chunkStep tickOf turns turn newTo newFrom sourceAfter auxAfter putSlews fillFrom tickSum others plains offsets somePlain plain routeValue inputIn inGroup sounding inSpan planAt routeAt partOf sampleIn fill part onPart rowsOfChunk audioOf audioPlans glided movedHeld advanced joined moving movedValue movedGlide chunkTotal chunkOf loadBy activeCount drawRoutes putState putHeld putGlobals putValues putAudio withVelocity withKey withMarks withPhase withBlock withPrimed withGains withProgram withDraw marksCleared marksSwapped noMarks noVoices noNotes freshState emptyOf swapProgram compiled padded targetPlace verdict verdictsFrom verdicts candidates skippedOf inUse countedFeed usedDests feederOf readersOf reads hearsAudio isAudio controls audios planOrder order slewFor inputBy routeBy routeIn planBy plansOf allRoutes secondsOf ratePerSample namesTable anyNames slotNames hold max32 min32 isNan lt le eq add sub mul div ofInt setHeld setVoiceHeld setBase setAmount setOutput setVoiceLimit noteOn noteOff voiceEnded run doneBy noteCurve randomsSet alternates soundedOn ranksOn endedOf newestAfter marksOn marksEnded setNote setValue setGlide legatoTime endedNote arrives glideMoved heldBy drawVoices withVoices withAlternate withLimit putBases lookupOf position cellOf partOfCell reach moved slewStep step scrambled drawBits drawOf rowAt onRow keptAmount keptOutput clampTo finite ne neg toBits toUnsigned audioFrame audioFrames newAudio audioSum allPlain fromPart toPart isSounding absOf
 e3 = refl
 
 -- cases/09-bipolar.txt
@@ -227,7 +227,7 @@ c4 : List (List Call)
 c4 = ((swap 1) ∷ (held-set 0 (fin false 1 (negsuc 148))) ∷ (block ([]) (record { part = [] }) 0 32) ∷ []) ∷ ((held-set 0 (fin true 5033165 (negsuc 23))) ∷ (block ([]) (record { part = [] }) 0 32) ∷ []) ∷ []
 
 e4 : reports c4 r4 ≡ (1 ∷ 1 ∷ []) ∷ (1 ∷ 3197737370 ∷ []) ∷ []
-unfolding c4 r4 process judged chunkSteps chunkStep tickOf turns turn newRow newFrom newSlews slewsTo fillFrom tickSum others plains offsets somePlain plain routeValue inputIn inGroup sounding inSpan planAt routeAt partOf sampleIn fill part onPart rowsOfChunk audioOf audioPlans glided movedHeld advanced joined moving movedValue movedGlide chunkTotal chunkOf loadBy activeCount drawRoutes putState putHeld putGlobals putValues putAudio withVelocity withKey withMarks withPhase withBlock withPrimed withGains withProgram withDraw marksCleared marksSwapped noMarks noVoices noNotes freshState emptyOf swapProgram compiled padded targetPlace verdict verdictsFrom verdicts candidates skippedOf inUse countedFeed usedDests feederOf readersOf reads hearsAudio isAudio controls audios planOrder order slewFor inputBy routeBy routeIn planBy plansOf allRoutes secondsOf ratePerSample namesTable anyNames slotNames hold max32 min32 isNan lt le eq add sub mul div ofInt setHeld setVoiceHeld setBase setAmount setOutput setVoiceLimit noteOn noteOff voiceEnded run doneBy noteCurve randomsSet alternates soundedOn ranksOn endedOf newestAfter marksOn marksEnded setNote setValue setGlide legatoTime endedNote arrives glideMoved heldBy drawVoices withVoices withAlternate withLimit putBases lookupOf position cellOf partOfCell reach moved slewStep step scrambled drawBits drawOf rowAt onRow keptAmount keptOutput clampTo finite ne neg toBits toUnsigned audioFrame audioFrames newAudioRow audioSum allPlain fromPart toPart isSounding absOf
+unfolding c4 r4 process judged chunkSteps chunkStep tickOf turns turn newTo newFrom sourceAfter auxAfter putSlews fillFrom tickSum others plains offsets somePlain plain routeValue inputIn inGroup sounding inSpan planAt routeAt partOf sampleIn fill part onPart rowsOfChunk audioOf audioPlans glided movedHeld advanced joined moving movedValue movedGlide chunkTotal chunkOf loadBy activeCount drawRoutes putState putHeld putGlobals putValues putAudio withVelocity withKey withMarks withPhase withBlock withPrimed withGains withProgram withDraw marksCleared marksSwapped noMarks noVoices noNotes freshState emptyOf swapProgram compiled padded targetPlace verdict verdictsFrom verdicts candidates skippedOf inUse countedFeed usedDests feederOf readersOf reads hearsAudio isAudio controls audios planOrder order slewFor inputBy routeBy routeIn planBy plansOf allRoutes secondsOf ratePerSample namesTable anyNames slotNames hold max32 min32 isNan lt le eq add sub mul div ofInt setHeld setVoiceHeld setBase setAmount setOutput setVoiceLimit noteOn noteOff voiceEnded run doneBy noteCurve randomsSet alternates soundedOn ranksOn endedOf newestAfter marksOn marksEnded setNote setValue setGlide legatoTime endedNote arrives glideMoved heldBy drawVoices withVoices withAlternate withLimit putBases lookupOf position cellOf partOfCell reach moved slewStep step scrambled drawBits drawOf rowAt onRow keptAmount keptOutput clampTo finite ne neg toBits toUnsigned audioFrame audioFrames newAudio audioSum allPlain fromPart toPart isSounding absOf
 e4 = refl
 
 -- cases/10-note.txt
@@ -248,7 +248,7 @@ c5 : List (List Call)
 c5 = ((base-set 0 (fin false 1 (negsuc 1))) ∷ (block ([]) (record { part = [] }) 0 5) ∷ []) ∷ ((note-on 0 (record { key = (fin false 15 (pos 2)); velocity = (fin false 1 (pos 0)); legato = false; glide-seconds = (fin false 0 (pos 0)) })) ∷ (voice-ended 0) ∷ (swap 1) ∷ (block ([]) (record { part = [] }) 0 27) ∷ []) ∷ []
 
 e5 : reports c5 r5 ≡ ([]) ∷ (1061158912 ∷ 1061158912 ∷ []) ∷ []
-unfolding c5 r5 process judged chunkSteps chunkStep tickOf turns turn newRow newFrom newSlews slewsTo fillFrom tickSum others plains offsets somePlain plain routeValue inputIn inGroup sounding inSpan planAt routeAt partOf sampleIn fill part onPart rowsOfChunk audioOf audioPlans glided movedHeld advanced joined moving movedValue movedGlide chunkTotal chunkOf loadBy activeCount drawRoutes putState putHeld putGlobals putValues putAudio withVelocity withKey withMarks withPhase withBlock withPrimed withGains withProgram withDraw marksCleared marksSwapped noMarks noVoices noNotes freshState emptyOf swapProgram compiled padded targetPlace verdict verdictsFrom verdicts candidates skippedOf inUse countedFeed usedDests feederOf readersOf reads hearsAudio isAudio controls audios planOrder order slewFor inputBy routeBy routeIn planBy plansOf allRoutes secondsOf ratePerSample namesTable anyNames slotNames hold max32 min32 isNan lt le eq add sub mul div ofInt setHeld setVoiceHeld setBase setAmount setOutput setVoiceLimit noteOn noteOff voiceEnded run doneBy noteCurve randomsSet alternates soundedOn ranksOn endedOf newestAfter marksOn marksEnded setNote setValue setGlide legatoTime endedNote arrives glideMoved heldBy drawVoices withVoices withAlternate withLimit putBases lookupOf position cellOf partOfCell reach moved slewStep step scrambled drawBits drawOf rowAt onRow keptAmount keptOutput clampTo finite ne neg toBits toUnsigned audioFrame audioFrames newAudioRow audioSum allPlain fromPart toPart isSounding absOf
+unfolding c5 r5 process judged chunkSteps chunkStep tickOf turns turn newTo newFrom sourceAfter auxAfter putSlews fillFrom tickSum others plains offsets somePlain plain routeValue inputIn inGroup sounding inSpan planAt routeAt partOf sampleIn fill part onPart rowsOfChunk audioOf audioPlans glided movedHeld advanced joined moving movedValue movedGlide chunkTotal chunkOf loadBy activeCount drawRoutes putState putHeld putGlobals putValues putAudio withVelocity withKey withMarks withPhase withBlock withPrimed withGains withProgram withDraw marksCleared marksSwapped noMarks noVoices noNotes freshState emptyOf swapProgram compiled padded targetPlace verdict verdictsFrom verdicts candidates skippedOf inUse countedFeed usedDests feederOf readersOf reads hearsAudio isAudio controls audios planOrder order slewFor inputBy routeBy routeIn planBy plansOf allRoutes secondsOf ratePerSample namesTable anyNames slotNames hold max32 min32 isNan lt le eq add sub mul div ofInt setHeld setVoiceHeld setBase setAmount setOutput setVoiceLimit noteOn noteOff voiceEnded run doneBy noteCurve randomsSet alternates soundedOn ranksOn endedOf newestAfter marksOn marksEnded setNote setValue setGlide legatoTime endedNote arrives glideMoved heldBy drawVoices withVoices withAlternate withLimit putBases lookupOf position cellOf partOfCell reach moved slewStep step scrambled drawBits drawOf rowAt onRow keptAmount keptOutput clampTo finite ne neg toBits toUnsigned audioFrame audioFrames newAudio audioSum allPlain fromPart toPart isSounding absOf
 e5 = refl
 
 -- cases/10-without.txt
@@ -269,7 +269,7 @@ c6 : List (List Call)
 c6 = ((base-set 0 (fin false 1 (negsuc 1))) ∷ (block ([]) (record { part = [] }) 0 5) ∷ []) ∷ ((swap 1) ∷ (block ([]) (record { part = [] }) 0 27) ∷ []) ∷ []
 
 e6 : reports c6 r6 ≡ ([]) ∷ (0 ∷ 0 ∷ []) ∷ []
-unfolding c6 r6 process judged chunkSteps chunkStep tickOf turns turn newRow newFrom newSlews slewsTo fillFrom tickSum others plains offsets somePlain plain routeValue inputIn inGroup sounding inSpan planAt routeAt partOf sampleIn fill part onPart rowsOfChunk audioOf audioPlans glided movedHeld advanced joined moving movedValue movedGlide chunkTotal chunkOf loadBy activeCount drawRoutes putState putHeld putGlobals putValues putAudio withVelocity withKey withMarks withPhase withBlock withPrimed withGains withProgram withDraw marksCleared marksSwapped noMarks noVoices noNotes freshState emptyOf swapProgram compiled padded targetPlace verdict verdictsFrom verdicts candidates skippedOf inUse countedFeed usedDests feederOf readersOf reads hearsAudio isAudio controls audios planOrder order slewFor inputBy routeBy routeIn planBy plansOf allRoutes secondsOf ratePerSample namesTable anyNames slotNames hold max32 min32 isNan lt le eq add sub mul div ofInt setHeld setVoiceHeld setBase setAmount setOutput setVoiceLimit noteOn noteOff voiceEnded run doneBy noteCurve randomsSet alternates soundedOn ranksOn endedOf newestAfter marksOn marksEnded setNote setValue setGlide legatoTime endedNote arrives glideMoved heldBy drawVoices withVoices withAlternate withLimit putBases lookupOf position cellOf partOfCell reach moved slewStep step scrambled drawBits drawOf rowAt onRow keptAmount keptOutput clampTo finite ne neg toBits toUnsigned audioFrame audioFrames newAudioRow audioSum allPlain fromPart toPart isSounding absOf
+unfolding c6 r6 process judged chunkSteps chunkStep tickOf turns turn newTo newFrom sourceAfter auxAfter putSlews fillFrom tickSum others plains offsets somePlain plain routeValue inputIn inGroup sounding inSpan planAt routeAt partOf sampleIn fill part onPart rowsOfChunk audioOf audioPlans glided movedHeld advanced joined moving movedValue movedGlide chunkTotal chunkOf loadBy activeCount drawRoutes putState putHeld putGlobals putValues putAudio withVelocity withKey withMarks withPhase withBlock withPrimed withGains withProgram withDraw marksCleared marksSwapped noMarks noVoices noNotes freshState emptyOf swapProgram compiled padded targetPlace verdict verdictsFrom verdicts candidates skippedOf inUse countedFeed usedDests feederOf readersOf reads hearsAudio isAudio controls audios planOrder order slewFor inputBy routeBy routeIn planBy plansOf allRoutes secondsOf ratePerSample namesTable anyNames slotNames hold max32 min32 isNan lt le eq add sub mul div ofInt setHeld setVoiceHeld setBase setAmount setOutput setVoiceLimit noteOn noteOff voiceEnded run doneBy noteCurve randomsSet alternates soundedOn ranksOn endedOf newestAfter marksOn marksEnded setNote setValue setGlide legatoTime endedNote arrives glideMoved heldBy drawVoices withVoices withAlternate withLimit putBases lookupOf position cellOf partOfCell reach moved slewStep step scrambled drawBits drawOf rowAt onRow keptAmount keptOutput clampTo finite ne neg toBits toUnsigned audioFrame audioFrames newAudio audioSum allPlain fromPart toPart isSounding absOf
 e6 = refl
 
 -- cases/11-clamp.txt
@@ -290,7 +290,7 @@ c7 : List (List Call)
 c7 = ((swap 1) ∷ (block ([]) (record { part = [] }) 0 32) ∷ []) ∷ ((amount-set 0 (fin false 3 (negsuc 0))) ∷ (amount-set 1 (fin true 1 (pos 1))) ∷ (block ([]) (record { part = [] }) 0 32) ∷ []) ∷ []
 
 e7 : reports c7 r7 ≡ (1075838976 ∷ 1075838976 ∷ []) ∷ (1075838976 ∷ 1065353216 ∷ []) ∷ []
-unfolding c7 r7 process judged chunkSteps chunkStep tickOf turns turn newRow newFrom newSlews slewsTo fillFrom tickSum others plains offsets somePlain plain routeValue inputIn inGroup sounding inSpan planAt routeAt partOf sampleIn fill part onPart rowsOfChunk audioOf audioPlans glided movedHeld advanced joined moving movedValue movedGlide chunkTotal chunkOf loadBy activeCount drawRoutes putState putHeld putGlobals putValues putAudio withVelocity withKey withMarks withPhase withBlock withPrimed withGains withProgram withDraw marksCleared marksSwapped noMarks noVoices noNotes freshState emptyOf swapProgram compiled padded targetPlace verdict verdictsFrom verdicts candidates skippedOf inUse countedFeed usedDests feederOf readersOf reads hearsAudio isAudio controls audios planOrder order slewFor inputBy routeBy routeIn planBy plansOf allRoutes secondsOf ratePerSample namesTable anyNames slotNames hold max32 min32 isNan lt le eq add sub mul div ofInt setHeld setVoiceHeld setBase setAmount setOutput setVoiceLimit noteOn noteOff voiceEnded run doneBy noteCurve randomsSet alternates soundedOn ranksOn endedOf newestAfter marksOn marksEnded setNote setValue setGlide legatoTime endedNote arrives glideMoved heldBy drawVoices withVoices withAlternate withLimit putBases lookupOf position cellOf partOfCell reach moved slewStep step scrambled drawBits drawOf rowAt onRow keptAmount keptOutput clampTo finite ne neg toBits toUnsigned audioFrame audioFrames newAudioRow audioSum allPlain fromPart toPart isSounding absOf
+unfolding c7 r7 process judged chunkSteps chunkStep tickOf turns turn newTo newFrom sourceAfter auxAfter putSlews fillFrom tickSum others plains offsets somePlain plain routeValue inputIn inGroup sounding inSpan planAt routeAt partOf sampleIn fill part onPart rowsOfChunk audioOf audioPlans glided movedHeld advanced joined moving movedValue movedGlide chunkTotal chunkOf loadBy activeCount drawRoutes putState putHeld putGlobals putValues putAudio withVelocity withKey withMarks withPhase withBlock withPrimed withGains withProgram withDraw marksCleared marksSwapped noMarks noVoices noNotes freshState emptyOf swapProgram compiled padded targetPlace verdict verdictsFrom verdicts candidates skippedOf inUse countedFeed usedDests feederOf readersOf reads hearsAudio isAudio controls audios planOrder order slewFor inputBy routeBy routeIn planBy plansOf allRoutes secondsOf ratePerSample namesTable anyNames slotNames hold max32 min32 isNan lt le eq add sub mul div ofInt setHeld setVoiceHeld setBase setAmount setOutput setVoiceLimit noteOn noteOff voiceEnded run doneBy noteCurve randomsSet alternates soundedOn ranksOn endedOf newestAfter marksOn marksEnded setNote setValue setGlide legatoTime endedNote arrives glideMoved heldBy drawVoices withVoices withAlternate withLimit putBases lookupOf position cellOf partOfCell reach moved slewStep step scrambled drawBits drawOf rowAt onRow keptAmount keptOutput clampTo finite ne neg toBits toUnsigned audioFrame audioFrames newAudio audioSum allPlain fromPart toPart isSounding absOf
 e7 = refl
 
 -- cases/13-c12.txt
@@ -311,7 +311,7 @@ c8 : List (List Call)
 c8 = ((base-set 0 (fin false 1 (negsuc 1))) ∷ (swap 1) ∷ (block ([]) (record { part = [] }) 0 64) ∷ []) ∷ []
 
 e8 : reports c8 r8 ≡ (1065353216 ∷ 1065353216 ∷ 1065353216 ∷ 1065353216 ∷ 1061158912 ∷ 1061158912 ∷ 1061158912 ∷ 1061158912 ∷ []) ∷ []
-unfolding c8 r8 process judged chunkSteps chunkStep tickOf turns turn newRow newFrom newSlews slewsTo fillFrom tickSum others plains offsets somePlain plain routeValue inputIn inGroup sounding inSpan planAt routeAt partOf sampleIn fill part onPart rowsOfChunk audioOf audioPlans glided movedHeld advanced joined moving movedValue movedGlide chunkTotal chunkOf loadBy activeCount drawRoutes putState putHeld putGlobals putValues putAudio withVelocity withKey withMarks withPhase withBlock withPrimed withGains withProgram withDraw marksCleared marksSwapped noMarks noVoices noNotes freshState emptyOf swapProgram compiled padded targetPlace verdict verdictsFrom verdicts candidates skippedOf inUse countedFeed usedDests feederOf readersOf reads hearsAudio isAudio controls audios planOrder order slewFor inputBy routeBy routeIn planBy plansOf allRoutes secondsOf ratePerSample namesTable anyNames slotNames hold max32 min32 isNan lt le eq add sub mul div ofInt setHeld setVoiceHeld setBase setAmount setOutput setVoiceLimit noteOn noteOff voiceEnded run doneBy noteCurve randomsSet alternates soundedOn ranksOn endedOf newestAfter marksOn marksEnded setNote setValue setGlide legatoTime endedNote arrives glideMoved heldBy drawVoices withVoices withAlternate withLimit putBases lookupOf position cellOf partOfCell reach moved slewStep step scrambled drawBits drawOf rowAt onRow keptAmount keptOutput clampTo finite ne neg toBits toUnsigned audioFrame audioFrames newAudioRow audioSum allPlain fromPart toPart isSounding absOf
+unfolding c8 r8 process judged chunkSteps chunkStep tickOf turns turn newTo newFrom sourceAfter auxAfter putSlews fillFrom tickSum others plains offsets somePlain plain routeValue inputIn inGroup sounding inSpan planAt routeAt partOf sampleIn fill part onPart rowsOfChunk audioOf audioPlans glided movedHeld advanced joined moving movedValue movedGlide chunkTotal chunkOf loadBy activeCount drawRoutes putState putHeld putGlobals putValues putAudio withVelocity withKey withMarks withPhase withBlock withPrimed withGains withProgram withDraw marksCleared marksSwapped noMarks noVoices noNotes freshState emptyOf swapProgram compiled padded targetPlace verdict verdictsFrom verdicts candidates skippedOf inUse countedFeed usedDests feederOf readersOf reads hearsAudio isAudio controls audios planOrder order slewFor inputBy routeBy routeIn planBy plansOf allRoutes secondsOf ratePerSample namesTable anyNames slotNames hold max32 min32 isNan lt le eq add sub mul div ofInt setHeld setVoiceHeld setBase setAmount setOutput setVoiceLimit noteOn noteOff voiceEnded run doneBy noteCurve randomsSet alternates soundedOn ranksOn endedOf newestAfter marksOn marksEnded setNote setValue setGlide legatoTime endedNote arrives glideMoved heldBy drawVoices withVoices withAlternate withLimit putBases lookupOf position cellOf partOfCell reach moved slewStep step scrambled drawBits drawOf rowAt onRow keptAmount keptOutput clampTo finite ne neg toBits toUnsigned audioFrame audioFrames newAudio audioSum allPlain fromPart toPart isSounding absOf
 e8 = refl
 
 -- cases/diff-1-unread-feeder.txt
@@ -332,7 +332,7 @@ c9 : List (List Call)
 c9 = ((swap 1) ∷ (block ([]) (record { part = [] }) 0 32) ∷ []) ∷ []
 
 e9 : reports c9 r9 ≡ (1065353216 ∷ 1065353216 ∷ 1065353216 ∷ 1065353216 ∷ 1065353216 ∷ 1065353216 ∷ []) ∷ []
-unfolding c9 r9 process judged chunkSteps chunkStep tickOf turns turn newRow newFrom newSlews slewsTo fillFrom tickSum others plains offsets somePlain plain routeValue inputIn inGroup sounding inSpan planAt routeAt partOf sampleIn fill part onPart rowsOfChunk audioOf audioPlans glided movedHeld advanced joined moving movedValue movedGlide chunkTotal chunkOf loadBy activeCount drawRoutes putState putHeld putGlobals putValues putAudio withVelocity withKey withMarks withPhase withBlock withPrimed withGains withProgram withDraw marksCleared marksSwapped noMarks noVoices noNotes freshState emptyOf swapProgram compiled padded targetPlace verdict verdictsFrom verdicts candidates skippedOf inUse countedFeed usedDests feederOf readersOf reads hearsAudio isAudio controls audios planOrder order slewFor inputBy routeBy routeIn planBy plansOf allRoutes secondsOf ratePerSample namesTable anyNames slotNames hold max32 min32 isNan lt le eq add sub mul div ofInt setHeld setVoiceHeld setBase setAmount setOutput setVoiceLimit noteOn noteOff voiceEnded run doneBy noteCurve randomsSet alternates soundedOn ranksOn endedOf newestAfter marksOn marksEnded setNote setValue setGlide legatoTime endedNote arrives glideMoved heldBy drawVoices withVoices withAlternate withLimit putBases lookupOf position cellOf partOfCell reach moved slewStep step scrambled drawBits drawOf rowAt onRow keptAmount keptOutput clampTo finite ne neg toBits toUnsigned audioFrame audioFrames newAudioRow audioSum allPlain fromPart toPart isSounding absOf
+unfolding c9 r9 process judged chunkSteps chunkStep tickOf turns turn newTo newFrom sourceAfter auxAfter putSlews fillFrom tickSum others plains offsets somePlain plain routeValue inputIn inGroup sounding inSpan planAt routeAt partOf sampleIn fill part onPart rowsOfChunk audioOf audioPlans glided movedHeld advanced joined moving movedValue movedGlide chunkTotal chunkOf loadBy activeCount drawRoutes putState putHeld putGlobals putValues putAudio withVelocity withKey withMarks withPhase withBlock withPrimed withGains withProgram withDraw marksCleared marksSwapped noMarks noVoices noNotes freshState emptyOf swapProgram compiled padded targetPlace verdict verdictsFrom verdicts candidates skippedOf inUse countedFeed usedDests feederOf readersOf reads hearsAudio isAudio controls audios planOrder order slewFor inputBy routeBy routeIn planBy plansOf allRoutes secondsOf ratePerSample namesTable anyNames slotNames hold max32 min32 isNan lt le eq add sub mul div ofInt setHeld setVoiceHeld setBase setAmount setOutput setVoiceLimit noteOn noteOff voiceEnded run doneBy noteCurve randomsSet alternates soundedOn ranksOn endedOf newestAfter marksOn marksEnded setNote setValue setGlide legatoTime endedNote arrives glideMoved heldBy drawVoices withVoices withAlternate withLimit putBases lookupOf position cellOf partOfCell reach moved slewStep step scrambled drawBits drawOf rowAt onRow keptAmount keptOutput clampTo finite ne neg toBits toUnsigned audioFrame audioFrames newAudio audioSum allPlain fromPart toPart isSounding absOf
 e9 = refl
 
 -- cases/diff-2-global-slew.txt
@@ -353,7 +353,7 @@ c10 : List (List Call)
 c10 = ((swap 1) ∷ (held-set 0 (fin false 1 (pos 0))) ∷ (held-set 1 (fin false 1 (pos 0))) ∷ (note-on 0 (record { key = (fin false 15 (pos 2)); velocity = (fin false 1 (pos 0)); legato = false; glide-seconds = (fin false 0 (pos 0)) })) ∷ (block ([]) (record { part = [] }) 0 32) ∷ []) ∷ []
 
 e10 : reports c10 r10 ≡ (1056964608 ∷ 1056964608 ∷ 1056964608 ∷ 1056964608 ∷ 1056964608 ∷ 1056964608 ∷ 1056964608 ∷ 1056964608 ∷ 1056964608 ∷ 1056964608 ∷ 1056964608 ∷ 1056964608 ∷ 1056964608 ∷ 1056964608 ∷ 1056964608 ∷ 1056964608 ∷ 1056964608 ∷ 1056964608 ∷ 1056964608 ∷ 1056964608 ∷ 1056964608 ∷ 1056964608 ∷ 1056964608 ∷ 1056964608 ∷ 1056964608 ∷ 1056964608 ∷ 1056964608 ∷ 1056964608 ∷ 1056964608 ∷ 1056964608 ∷ 1056964608 ∷ 1056964608 ∷ 1065353216 ∷ 1056964608 ∷ 1056964608 ∷ 1056964608 ∷ 1056964608 ∷ 1056964608 ∷ 1056964608 ∷ 1056964608 ∷ 1056964608 ∷ 1056964608 ∷ 1056964608 ∷ 1056964608 ∷ 1056964608 ∷ 1056964608 ∷ 1056964608 ∷ 1056964608 ∷ 1065353216 ∷ 1056964608 ∷ 1056964608 ∷ 1056964608 ∷ 1056964608 ∷ 1056964608 ∷ 1056964608 ∷ 1056964608 ∷ 1056964608 ∷ 1056964608 ∷ 1056964608 ∷ 1056964608 ∷ 1056964608 ∷ 1056964608 ∷ 1056964608 ∷ 1056964608 ∷ []) ∷ []
-unfolding c10 r10 process judged chunkSteps chunkStep tickOf turns turn newRow newFrom newSlews slewsTo fillFrom tickSum others plains offsets somePlain plain routeValue inputIn inGroup sounding inSpan planAt routeAt partOf sampleIn fill part onPart rowsOfChunk audioOf audioPlans glided movedHeld advanced joined moving movedValue movedGlide chunkTotal chunkOf loadBy activeCount drawRoutes putState putHeld putGlobals putValues putAudio withVelocity withKey withMarks withPhase withBlock withPrimed withGains withProgram withDraw marksCleared marksSwapped noMarks noVoices noNotes freshState emptyOf swapProgram compiled padded targetPlace verdict verdictsFrom verdicts candidates skippedOf inUse countedFeed usedDests feederOf readersOf reads hearsAudio isAudio controls audios planOrder order slewFor inputBy routeBy routeIn planBy plansOf allRoutes secondsOf ratePerSample namesTable anyNames slotNames hold max32 min32 isNan lt le eq add sub mul div ofInt setHeld setVoiceHeld setBase setAmount setOutput setVoiceLimit noteOn noteOff voiceEnded run doneBy noteCurve randomsSet alternates soundedOn ranksOn endedOf newestAfter marksOn marksEnded setNote setValue setGlide legatoTime endedNote arrives glideMoved heldBy drawVoices withVoices withAlternate withLimit putBases lookupOf position cellOf partOfCell reach moved slewStep step scrambled drawBits drawOf rowAt onRow keptAmount keptOutput clampTo finite ne neg toBits toUnsigned audioFrame audioFrames newAudioRow audioSum allPlain fromPart toPart isSounding absOf
+unfolding c10 r10 process judged chunkSteps chunkStep tickOf turns turn newTo newFrom sourceAfter auxAfter putSlews fillFrom tickSum others plains offsets somePlain plain routeValue inputIn inGroup sounding inSpan planAt routeAt partOf sampleIn fill part onPart rowsOfChunk audioOf audioPlans glided movedHeld advanced joined moving movedValue movedGlide chunkTotal chunkOf loadBy activeCount drawRoutes putState putHeld putGlobals putValues putAudio withVelocity withKey withMarks withPhase withBlock withPrimed withGains withProgram withDraw marksCleared marksSwapped noMarks noVoices noNotes freshState emptyOf swapProgram compiled padded targetPlace verdict verdictsFrom verdicts candidates skippedOf inUse countedFeed usedDests feederOf readersOf reads hearsAudio isAudio controls audios planOrder order slewFor inputBy routeBy routeIn planBy plansOf allRoutes secondsOf ratePerSample namesTable anyNames slotNames hold max32 min32 isNan lt le eq add sub mul div ofInt setHeld setVoiceHeld setBase setAmount setOutput setVoiceLimit noteOn noteOff voiceEnded run doneBy noteCurve randomsSet alternates soundedOn ranksOn endedOf newestAfter marksOn marksEnded setNote setValue setGlide legatoTime endedNote arrives glideMoved heldBy drawVoices withVoices withAlternate withLimit putBases lookupOf position cellOf partOfCell reach moved slewStep step scrambled drawBits drawOf rowAt onRow keptAmount keptOutput clampTo finite ne neg toBits toUnsigned audioFrame audioFrames newAudio audioSum allPlain fromPart toPart isSounding absOf
 e10 = refl
 
 -- cases/diff-3-unprimed-slew.txt
@@ -374,7 +374,7 @@ c11 : List (List Call)
 c11 = ((block ([]) (record { part = [] }) 0 5) ∷ []) ∷ ((note-on 0 (record { key = (fin false 15 (pos 2)); velocity = (fin false 1 (pos 0)); legato = false; glide-seconds = (fin false 0 (pos 0)) })) ∷ (voice-ended 0) ∷ (swap 1) ∷ (block ([]) (record { part = [] }) 0 59) ∷ []) ∷ []
 
 e11 : reports c11 r11 ≡ ([]) ∷ (0 ∷ 0 ∷ 0 ∷ 1056964608 ∷ []) ∷ []
-unfolding c11 r11 process judged chunkSteps chunkStep tickOf turns turn newRow newFrom newSlews slewsTo fillFrom tickSum others plains offsets somePlain plain routeValue inputIn inGroup sounding inSpan planAt routeAt partOf sampleIn fill part onPart rowsOfChunk audioOf audioPlans glided movedHeld advanced joined moving movedValue movedGlide chunkTotal chunkOf loadBy activeCount drawRoutes putState putHeld putGlobals putValues putAudio withVelocity withKey withMarks withPhase withBlock withPrimed withGains withProgram withDraw marksCleared marksSwapped noMarks noVoices noNotes freshState emptyOf swapProgram compiled padded targetPlace verdict verdictsFrom verdicts candidates skippedOf inUse countedFeed usedDests feederOf readersOf reads hearsAudio isAudio controls audios planOrder order slewFor inputBy routeBy routeIn planBy plansOf allRoutes secondsOf ratePerSample namesTable anyNames slotNames hold max32 min32 isNan lt le eq add sub mul div ofInt setHeld setVoiceHeld setBase setAmount setOutput setVoiceLimit noteOn noteOff voiceEnded run doneBy noteCurve randomsSet alternates soundedOn ranksOn endedOf newestAfter marksOn marksEnded setNote setValue setGlide legatoTime endedNote arrives glideMoved heldBy drawVoices withVoices withAlternate withLimit putBases lookupOf position cellOf partOfCell reach moved slewStep step scrambled drawBits drawOf rowAt onRow keptAmount keptOutput clampTo finite ne neg toBits toUnsigned audioFrame audioFrames newAudioRow audioSum allPlain fromPart toPart isSounding absOf
+unfolding c11 r11 process judged chunkSteps chunkStep tickOf turns turn newTo newFrom sourceAfter auxAfter putSlews fillFrom tickSum others plains offsets somePlain plain routeValue inputIn inGroup sounding inSpan planAt routeAt partOf sampleIn fill part onPart rowsOfChunk audioOf audioPlans glided movedHeld advanced joined moving movedValue movedGlide chunkTotal chunkOf loadBy activeCount drawRoutes putState putHeld putGlobals putValues putAudio withVelocity withKey withMarks withPhase withBlock withPrimed withGains withProgram withDraw marksCleared marksSwapped noMarks noVoices noNotes freshState emptyOf swapProgram compiled padded targetPlace verdict verdictsFrom verdicts candidates skippedOf inUse countedFeed usedDests feederOf readersOf reads hearsAudio isAudio controls audios planOrder order slewFor inputBy routeBy routeIn planBy plansOf allRoutes secondsOf ratePerSample namesTable anyNames slotNames hold max32 min32 isNan lt le eq add sub mul div ofInt setHeld setVoiceHeld setBase setAmount setOutput setVoiceLimit noteOn noteOff voiceEnded run doneBy noteCurve randomsSet alternates soundedOn ranksOn endedOf newestAfter marksOn marksEnded setNote setValue setGlide legatoTime endedNote arrives glideMoved heldBy drawVoices withVoices withAlternate withLimit putBases lookupOf position cellOf partOfCell reach moved slewStep step scrambled drawBits drawOf rowAt onRow keptAmount keptOutput clampTo finite ne neg toBits toUnsigned audioFrame audioFrames newAudio audioSum allPlain fromPart toPart isSounding absOf
 e11 = refl
 
 -- cases/diff-4-groups.txt
@@ -395,7 +395,7 @@ c12 : List (List Call)
 c12 = ((swap 1) ∷ (held-set 0 (fin false 1 (negsuc 1))) ∷ (note-on 0 (record { key = (fin false 15 (pos 2)); velocity = (fin false 1 (pos 0)); legato = false; glide-seconds = (fin false 0 (pos 0)) })) ∷ (note-on 32 (record { key = (fin false 15 (pos 2)); velocity = (fin false 1 (pos 0)); legato = false; glide-seconds = (fin false 0 (pos 0)) })) ∷ (block ([]) (record { part = [] }) 0 32) ∷ []) ∷ []
 
 e12 : reports c12 r12 ≡ (1061158912 ∷ 1061158912 ∷ 1061158912 ∷ 1061158912 ∷ 1061158912 ∷ 1061158912 ∷ 1061158912 ∷ 1061158912 ∷ 1061158912 ∷ 1061158912 ∷ 1061158912 ∷ 1061158912 ∷ 1061158912 ∷ 1061158912 ∷ 1061158912 ∷ 1061158912 ∷ 1048576000 ∷ 1048576000 ∷ 1048576000 ∷ 1048576000 ∷ 1048576000 ∷ 1048576000 ∷ 1048576000 ∷ 1048576000 ∷ 1048576000 ∷ 1048576000 ∷ 1048576000 ∷ 1048576000 ∷ 1048576000 ∷ 1048576000 ∷ 1048576000 ∷ 1048576000 ∷ 1061158912 ∷ 1061158912 ∷ 1061158912 ∷ 1061158912 ∷ 1061158912 ∷ 1061158912 ∷ 1061158912 ∷ 1061158912 ∷ 1061158912 ∷ 1061158912 ∷ 1061158912 ∷ 1061158912 ∷ 1061158912 ∷ 1061158912 ∷ 1061158912 ∷ 1061158912 ∷ 1061158912 ∷ 1061158912 ∷ 1061158912 ∷ 1061158912 ∷ 1061158912 ∷ 1061158912 ∷ 1061158912 ∷ 1061158912 ∷ 1061158912 ∷ 1061158912 ∷ 1061158912 ∷ 1061158912 ∷ 1061158912 ∷ 1061158912 ∷ 1061158912 ∷ 1061158912 ∷ 1048576000 ∷ 1048576000 ∷ 1048576000 ∷ 1048576000 ∷ 1048576000 ∷ 1048576000 ∷ 1048576000 ∷ 1048576000 ∷ 1048576000 ∷ 1048576000 ∷ 1048576000 ∷ 1048576000 ∷ 1048576000 ∷ 1048576000 ∷ 1048576000 ∷ 1048576000 ∷ 1061158912 ∷ 1061158912 ∷ 1061158912 ∷ 1061158912 ∷ 1061158912 ∷ 1061158912 ∷ 1061158912 ∷ 1061158912 ∷ 1061158912 ∷ 1061158912 ∷ 1061158912 ∷ 1061158912 ∷ 1061158912 ∷ 1061158912 ∷ 1061158912 ∷ 1061158912 ∷ []) ∷ []
-unfolding c12 r12 process judged chunkSteps chunkStep tickOf turns turn newRow newFrom newSlews slewsTo fillFrom tickSum others plains offsets somePlain plain routeValue inputIn inGroup sounding inSpan planAt routeAt partOf sampleIn fill part onPart rowsOfChunk audioOf audioPlans glided movedHeld advanced joined moving movedValue movedGlide chunkTotal chunkOf loadBy activeCount drawRoutes putState putHeld putGlobals putValues putAudio withVelocity withKey withMarks withPhase withBlock withPrimed withGains withProgram withDraw marksCleared marksSwapped noMarks noVoices noNotes freshState emptyOf swapProgram compiled padded targetPlace verdict verdictsFrom verdicts candidates skippedOf inUse countedFeed usedDests feederOf readersOf reads hearsAudio isAudio controls audios planOrder order slewFor inputBy routeBy routeIn planBy plansOf allRoutes secondsOf ratePerSample namesTable anyNames slotNames hold max32 min32 isNan lt le eq add sub mul div ofInt setHeld setVoiceHeld setBase setAmount setOutput setVoiceLimit noteOn noteOff voiceEnded run doneBy noteCurve randomsSet alternates soundedOn ranksOn endedOf newestAfter marksOn marksEnded setNote setValue setGlide legatoTime endedNote arrives glideMoved heldBy drawVoices withVoices withAlternate withLimit putBases lookupOf position cellOf partOfCell reach moved slewStep step scrambled drawBits drawOf rowAt onRow keptAmount keptOutput clampTo finite ne neg toBits toUnsigned audioFrame audioFrames newAudioRow audioSum allPlain fromPart toPart isSounding absOf
+unfolding c12 r12 process judged chunkSteps chunkStep tickOf turns turn newTo newFrom sourceAfter auxAfter putSlews fillFrom tickSum others plains offsets somePlain plain routeValue inputIn inGroup sounding inSpan planAt routeAt partOf sampleIn fill part onPart rowsOfChunk audioOf audioPlans glided movedHeld advanced joined moving movedValue movedGlide chunkTotal chunkOf loadBy activeCount drawRoutes putState putHeld putGlobals putValues putAudio withVelocity withKey withMarks withPhase withBlock withPrimed withGains withProgram withDraw marksCleared marksSwapped noMarks noVoices noNotes freshState emptyOf swapProgram compiled padded targetPlace verdict verdictsFrom verdicts candidates skippedOf inUse countedFeed usedDests feederOf readersOf reads hearsAudio isAudio controls audios planOrder order slewFor inputBy routeBy routeIn planBy plansOf allRoutes secondsOf ratePerSample namesTable anyNames slotNames hold max32 min32 isNan lt le eq add sub mul div ofInt setHeld setVoiceHeld setBase setAmount setOutput setVoiceLimit noteOn noteOff voiceEnded run doneBy noteCurve randomsSet alternates soundedOn ranksOn endedOf newestAfter marksOn marksEnded setNote setValue setGlide legatoTime endedNote arrives glideMoved heldBy drawVoices withVoices withAlternate withLimit putBases lookupOf position cellOf partOfCell reach moved slewStep step scrambled drawBits drawOf rowAt onRow keptAmount keptOutput clampTo finite ne neg toBits toUnsigned audioFrame audioFrames newAudio audioSum allPlain fromPart toPart isSounding absOf
 e12 = refl
 
 -- cases/diff-5-no-voice.txt
@@ -416,7 +416,7 @@ c13 : List (List Call)
 c13 = ((swap 1) ∷ (held-set 0 (fin false 1 (pos 0))) ∷ (note-on 0 (record { key = (fin false 15 (pos 2)); velocity = (fin false 1 (pos 0)); legato = false; glide-seconds = (fin false 0 (pos 0)) })) ∷ (block ([]) (record { part = [] }) 0 1) ∷ []) ∷ ((voice-ended 0) ∷ (block ([]) (record { part = [] }) 0 1) ∷ []) ∷ []
 
 e13 : reports c13 r13 ≡ (1065353216 ∷ 1065353216 ∷ 1065353216 ∷ 1065353216 ∷ 1065353216 ∷ 1065353216 ∷ 1065353216 ∷ 1065353216 ∷ 1065353216 ∷ 1065353216 ∷ 1065353216 ∷ 1065353216 ∷ 1065353216 ∷ 1065353216 ∷ 1065353216 ∷ 1065353216 ∷ []) ∷ (0 ∷ 0 ∷ 0 ∷ 0 ∷ 0 ∷ 0 ∷ 0 ∷ 0 ∷ 0 ∷ 0 ∷ 0 ∷ 0 ∷ 0 ∷ 0 ∷ 0 ∷ 0 ∷ []) ∷ []
-unfolding c13 r13 process judged chunkSteps chunkStep tickOf turns turn newRow newFrom newSlews slewsTo fillFrom tickSum others plains offsets somePlain plain routeValue inputIn inGroup sounding inSpan planAt routeAt partOf sampleIn fill part onPart rowsOfChunk audioOf audioPlans glided movedHeld advanced joined moving movedValue movedGlide chunkTotal chunkOf loadBy activeCount drawRoutes putState putHeld putGlobals putValues putAudio withVelocity withKey withMarks withPhase withBlock withPrimed withGains withProgram withDraw marksCleared marksSwapped noMarks noVoices noNotes freshState emptyOf swapProgram compiled padded targetPlace verdict verdictsFrom verdicts candidates skippedOf inUse countedFeed usedDests feederOf readersOf reads hearsAudio isAudio controls audios planOrder order slewFor inputBy routeBy routeIn planBy plansOf allRoutes secondsOf ratePerSample namesTable anyNames slotNames hold max32 min32 isNan lt le eq add sub mul div ofInt setHeld setVoiceHeld setBase setAmount setOutput setVoiceLimit noteOn noteOff voiceEnded run doneBy noteCurve randomsSet alternates soundedOn ranksOn endedOf newestAfter marksOn marksEnded setNote setValue setGlide legatoTime endedNote arrives glideMoved heldBy drawVoices withVoices withAlternate withLimit putBases lookupOf position cellOf partOfCell reach moved slewStep step scrambled drawBits drawOf rowAt onRow keptAmount keptOutput clampTo finite ne neg toBits toUnsigned audioFrame audioFrames newAudioRow audioSum allPlain fromPart toPart isSounding absOf
+unfolding c13 r13 process judged chunkSteps chunkStep tickOf turns turn newTo newFrom sourceAfter auxAfter putSlews fillFrom tickSum others plains offsets somePlain plain routeValue inputIn inGroup sounding inSpan planAt routeAt partOf sampleIn fill part onPart rowsOfChunk audioOf audioPlans glided movedHeld advanced joined moving movedValue movedGlide chunkTotal chunkOf loadBy activeCount drawRoutes putState putHeld putGlobals putValues putAudio withVelocity withKey withMarks withPhase withBlock withPrimed withGains withProgram withDraw marksCleared marksSwapped noMarks noVoices noNotes freshState emptyOf swapProgram compiled padded targetPlace verdict verdictsFrom verdicts candidates skippedOf inUse countedFeed usedDests feederOf readersOf reads hearsAudio isAudio controls audios planOrder order slewFor inputBy routeBy routeIn planBy plansOf allRoutes secondsOf ratePerSample namesTable anyNames slotNames hold max32 min32 isNan lt le eq add sub mul div ofInt setHeld setVoiceHeld setBase setAmount setOutput setVoiceLimit noteOn noteOff voiceEnded run doneBy noteCurve randomsSet alternates soundedOn ranksOn endedOf newestAfter marksOn marksEnded setNote setValue setGlide legatoTime endedNote arrives glideMoved heldBy drawVoices withVoices withAlternate withLimit putBases lookupOf position cellOf partOfCell reach moved slewStep step scrambled drawBits drawOf rowAt onRow keptAmount keptOutput clampTo finite ne neg toBits toUnsigned audioFrame audioFrames newAudio audioSum allPlain fromPart toPart isSounding absOf
 e13 = refl
 
 -- cases/diff-6-constant-scope.txt
@@ -437,7 +437,7 @@ c14 : List (List Call)
 c14 = ((swap 1) ∷ (block ([]) (record { part = [] }) 0 32) ∷ []) ∷ []
 
 e14 : reports c14 r14 ≡ (1056964608 ∷ 1056964608 ∷ []) ∷ []
-unfolding c14 r14 process judged chunkSteps chunkStep tickOf turns turn newRow newFrom newSlews slewsTo fillFrom tickSum others plains offsets somePlain plain routeValue inputIn inGroup sounding inSpan planAt routeAt partOf sampleIn fill part onPart rowsOfChunk audioOf audioPlans glided movedHeld advanced joined moving movedValue movedGlide chunkTotal chunkOf loadBy activeCount drawRoutes putState putHeld putGlobals putValues putAudio withVelocity withKey withMarks withPhase withBlock withPrimed withGains withProgram withDraw marksCleared marksSwapped noMarks noVoices noNotes freshState emptyOf swapProgram compiled padded targetPlace verdict verdictsFrom verdicts candidates skippedOf inUse countedFeed usedDests feederOf readersOf reads hearsAudio isAudio controls audios planOrder order slewFor inputBy routeBy routeIn planBy plansOf allRoutes secondsOf ratePerSample namesTable anyNames slotNames hold max32 min32 isNan lt le eq add sub mul div ofInt setHeld setVoiceHeld setBase setAmount setOutput setVoiceLimit noteOn noteOff voiceEnded run doneBy noteCurve randomsSet alternates soundedOn ranksOn endedOf newestAfter marksOn marksEnded setNote setValue setGlide legatoTime endedNote arrives glideMoved heldBy drawVoices withVoices withAlternate withLimit putBases lookupOf position cellOf partOfCell reach moved slewStep step scrambled drawBits drawOf rowAt onRow keptAmount keptOutput clampTo finite ne neg toBits toUnsigned audioFrame audioFrames newAudioRow audioSum allPlain fromPart toPart isSounding absOf
+unfolding c14 r14 process judged chunkSteps chunkStep tickOf turns turn newTo newFrom sourceAfter auxAfter putSlews fillFrom tickSum others plains offsets somePlain plain routeValue inputIn inGroup sounding inSpan planAt routeAt partOf sampleIn fill part onPart rowsOfChunk audioOf audioPlans glided movedHeld advanced joined moving movedValue movedGlide chunkTotal chunkOf loadBy activeCount drawRoutes putState putHeld putGlobals putValues putAudio withVelocity withKey withMarks withPhase withBlock withPrimed withGains withProgram withDraw marksCleared marksSwapped noMarks noVoices noNotes freshState emptyOf swapProgram compiled padded targetPlace verdict verdictsFrom verdicts candidates skippedOf inUse countedFeed usedDests feederOf readersOf reads hearsAudio isAudio controls audios planOrder order slewFor inputBy routeBy routeIn planBy plansOf allRoutes secondsOf ratePerSample namesTable anyNames slotNames hold max32 min32 isNan lt le eq add sub mul div ofInt setHeld setVoiceHeld setBase setAmount setOutput setVoiceLimit noteOn noteOff voiceEnded run doneBy noteCurve randomsSet alternates soundedOn ranksOn endedOf newestAfter marksOn marksEnded setNote setValue setGlide legatoTime endedNote arrives glideMoved heldBy drawVoices withVoices withAlternate withLimit putBases lookupOf position cellOf partOfCell reach moved slewStep step scrambled drawBits drawOf rowAt onRow keptAmount keptOutput clampTo finite ne neg toBits toUnsigned audioFrame audioFrames newAudio audioSum allPlain fromPart toPart isSounding absOf
 e14 = refl
 
 -- cases/diff-7-nan-slew.txt
@@ -458,7 +458,7 @@ c15 : List (List Call)
 c15 = ((swap 1) ∷ (note-on 0 (record { key = (fin false 15 (pos 2)); velocity = (fin false 1 (pos 0)); legato = false; glide-seconds = (fin false 0 (pos 0)) })) ∷ (block ((fin false 1 (negsuc 1)) ∷ (fin false 1 (negsuc 1)) ∷ []) (record { part = record { at = 0; len = 2; stride = 2 } ∷ [] }) 0 1) ∷ []) ∷ ((note-on 1 (record { key = (fin false 15 (pos 2)); velocity = (fin false 1 (pos 0)); legato = false; glide-seconds = (fin false 0 (pos 0)) })) ∷ (block (nan ∷ (fin false 1 (negsuc 1)) ∷ []) (record { part = record { at = 0; len = 2; stride = 2 } ∷ [] }) 0 1) ∷ []) ∷ ((block ((fin false 1 (negsuc 1)) ∷ (fin false 1 (negsuc 1)) ∷ []) (record { part = record { at = 0; len = 2; stride = 2 } ∷ [] }) 0 30) ∷ []) ∷ ((block ((fin false 1 (negsuc 1)) ∷ (fin false 1 (negsuc 1)) ∷ []) (record { part = record { at = 0; len = 2; stride = 2 } ∷ [] }) 0 1) ∷ []) ∷ []
 
 e15 : reports c15 r15 ≡ (1048576000 ∷ 1048576000 ∷ 0 ∷ 0 ∷ 0 ∷ 0 ∷ 0 ∷ 0 ∷ 0 ∷ 0 ∷ 0 ∷ 0 ∷ 0 ∷ 0 ∷ 0 ∷ 0 ∷ 1048576000 ∷ 1048576000 ∷ 0 ∷ 0 ∷ 0 ∷ 0 ∷ 0 ∷ 0 ∷ 0 ∷ 0 ∷ 0 ∷ 0 ∷ 0 ∷ 0 ∷ 0 ∷ 0 ∷ []) ∷ (1048576000 ∷ 1048576000 ∷ 0 ∷ 0 ∷ 0 ∷ 0 ∷ 0 ∷ 0 ∷ 0 ∷ 0 ∷ 0 ∷ 0 ∷ 0 ∷ 0 ∷ 0 ∷ 0 ∷ 1048576000 ∷ 1048576000 ∷ 0 ∷ 0 ∷ 0 ∷ 0 ∷ 0 ∷ 0 ∷ 0 ∷ 0 ∷ 0 ∷ 0 ∷ 0 ∷ 0 ∷ 0 ∷ 0 ∷ []) ∷ (1048576000 ∷ 1048576000 ∷ 0 ∷ 0 ∷ 0 ∷ 0 ∷ 0 ∷ 0 ∷ 0 ∷ 0 ∷ 0 ∷ 0 ∷ 0 ∷ 0 ∷ 0 ∷ 0 ∷ 1048576000 ∷ 1048576000 ∷ 0 ∷ 0 ∷ 0 ∷ 0 ∷ 0 ∷ 0 ∷ 0 ∷ 0 ∷ 0 ∷ 0 ∷ 0 ∷ 0 ∷ 0 ∷ 0 ∷ []) ∷ (1048576000 ∷ 1048576000 ∷ 0 ∷ 0 ∷ 0 ∷ 0 ∷ 0 ∷ 0 ∷ 0 ∷ 0 ∷ 0 ∷ 0 ∷ 0 ∷ 0 ∷ 0 ∷ 0 ∷ 4286578688 ∷ 1048576000 ∷ 0 ∷ 0 ∷ 0 ∷ 0 ∷ 0 ∷ 0 ∷ 0 ∷ 0 ∷ 0 ∷ 0 ∷ 0 ∷ 0 ∷ 0 ∷ 0 ∷ []) ∷ []
-unfolding c15 r15 process judged chunkSteps chunkStep tickOf turns turn newRow newFrom newSlews slewsTo fillFrom tickSum others plains offsets somePlain plain routeValue inputIn inGroup sounding inSpan planAt routeAt partOf sampleIn fill part onPart rowsOfChunk audioOf audioPlans glided movedHeld advanced joined moving movedValue movedGlide chunkTotal chunkOf loadBy activeCount drawRoutes putState putHeld putGlobals putValues putAudio withVelocity withKey withMarks withPhase withBlock withPrimed withGains withProgram withDraw marksCleared marksSwapped noMarks noVoices noNotes freshState emptyOf swapProgram compiled padded targetPlace verdict verdictsFrom verdicts candidates skippedOf inUse countedFeed usedDests feederOf readersOf reads hearsAudio isAudio controls audios planOrder order slewFor inputBy routeBy routeIn planBy plansOf allRoutes secondsOf ratePerSample namesTable anyNames slotNames hold max32 min32 isNan lt le eq add sub mul div ofInt setHeld setVoiceHeld setBase setAmount setOutput setVoiceLimit noteOn noteOff voiceEnded run doneBy noteCurve randomsSet alternates soundedOn ranksOn endedOf newestAfter marksOn marksEnded setNote setValue setGlide legatoTime endedNote arrives glideMoved heldBy drawVoices withVoices withAlternate withLimit putBases lookupOf position cellOf partOfCell reach moved slewStep step scrambled drawBits drawOf rowAt onRow keptAmount keptOutput clampTo finite ne neg toBits toUnsigned audioFrame audioFrames newAudioRow audioSum allPlain fromPart toPart isSounding absOf
+unfolding c15 r15 process judged chunkSteps chunkStep tickOf turns turn newTo newFrom sourceAfter auxAfter putSlews fillFrom tickSum others plains offsets somePlain plain routeValue inputIn inGroup sounding inSpan planAt routeAt partOf sampleIn fill part onPart rowsOfChunk audioOf audioPlans glided movedHeld advanced joined moving movedValue movedGlide chunkTotal chunkOf loadBy activeCount drawRoutes putState putHeld putGlobals putValues putAudio withVelocity withKey withMarks withPhase withBlock withPrimed withGains withProgram withDraw marksCleared marksSwapped noMarks noVoices noNotes freshState emptyOf swapProgram compiled padded targetPlace verdict verdictsFrom verdicts candidates skippedOf inUse countedFeed usedDests feederOf readersOf reads hearsAudio isAudio controls audios planOrder order slewFor inputBy routeBy routeIn planBy plansOf allRoutes secondsOf ratePerSample namesTable anyNames slotNames hold max32 min32 isNan lt le eq add sub mul div ofInt setHeld setVoiceHeld setBase setAmount setOutput setVoiceLimit noteOn noteOff voiceEnded run doneBy noteCurve randomsSet alternates soundedOn ranksOn endedOf newestAfter marksOn marksEnded setNote setValue setGlide legatoTime endedNote arrives glideMoved heldBy drawVoices withVoices withAlternate withLimit putBases lookupOf position cellOf partOfCell reach moved slewStep step scrambled drawBits drawOf rowAt onRow keptAmount keptOutput clampTo finite ne neg toBits toUnsigned audioFrame audioFrames newAudio audioSum allPlain fromPart toPart isSounding absOf
 e15 = refl
 
 -- cases/diff-8-set-held.txt
@@ -479,7 +479,7 @@ c16 : List (List Call)
 c16 = ((swap 1) ∷ (note-on 0 (record { key = (fin false 15 (pos 2)); velocity = (fin false 1 (pos 0)); legato = false; glide-seconds = (fin false 0 (pos 0)) })) ∷ (held-set 0 (fin false 3 (negsuc 1))) ∷ (block ([]) (record { part = [] }) 0 32) ∷ []) ∷ []
 
 e16 : reports c16 r16 ≡ (1061158912 ∷ 1061158912 ∷ 1061158912 ∷ 1061158912 ∷ 1061158912 ∷ 1061158912 ∷ 1061158912 ∷ 1061158912 ∷ 1061158912 ∷ 1061158912 ∷ 1061158912 ∷ 1061158912 ∷ 1061158912 ∷ 1061158912 ∷ 1061158912 ∷ 1061158912 ∷ 1061158912 ∷ 1061158912 ∷ 1061158912 ∷ 1061158912 ∷ 1061158912 ∷ 1061158912 ∷ 1061158912 ∷ 1061158912 ∷ 1061158912 ∷ 1061158912 ∷ 1061158912 ∷ 1061158912 ∷ 1061158912 ∷ 1061158912 ∷ 1061158912 ∷ 1061158912 ∷ []) ∷ []
-unfolding c16 r16 process judged chunkSteps chunkStep tickOf turns turn newRow newFrom newSlews slewsTo fillFrom tickSum others plains offsets somePlain plain routeValue inputIn inGroup sounding inSpan planAt routeAt partOf sampleIn fill part onPart rowsOfChunk audioOf audioPlans glided movedHeld advanced joined moving movedValue movedGlide chunkTotal chunkOf loadBy activeCount drawRoutes putState putHeld putGlobals putValues putAudio withVelocity withKey withMarks withPhase withBlock withPrimed withGains withProgram withDraw marksCleared marksSwapped noMarks noVoices noNotes freshState emptyOf swapProgram compiled padded targetPlace verdict verdictsFrom verdicts candidates skippedOf inUse countedFeed usedDests feederOf readersOf reads hearsAudio isAudio controls audios planOrder order slewFor inputBy routeBy routeIn planBy plansOf allRoutes secondsOf ratePerSample namesTable anyNames slotNames hold max32 min32 isNan lt le eq add sub mul div ofInt setHeld setVoiceHeld setBase setAmount setOutput setVoiceLimit noteOn noteOff voiceEnded run doneBy noteCurve randomsSet alternates soundedOn ranksOn endedOf newestAfter marksOn marksEnded setNote setValue setGlide legatoTime endedNote arrives glideMoved heldBy drawVoices withVoices withAlternate withLimit putBases lookupOf position cellOf partOfCell reach moved slewStep step scrambled drawBits drawOf rowAt onRow keptAmount keptOutput clampTo finite ne neg toBits toUnsigned audioFrame audioFrames newAudioRow audioSum allPlain fromPart toPart isSounding absOf
+unfolding c16 r16 process judged chunkSteps chunkStep tickOf turns turn newTo newFrom sourceAfter auxAfter putSlews fillFrom tickSum others plains offsets somePlain plain routeValue inputIn inGroup sounding inSpan planAt routeAt partOf sampleIn fill part onPart rowsOfChunk audioOf audioPlans glided movedHeld advanced joined moving movedValue movedGlide chunkTotal chunkOf loadBy activeCount drawRoutes putState putHeld putGlobals putValues putAudio withVelocity withKey withMarks withPhase withBlock withPrimed withGains withProgram withDraw marksCleared marksSwapped noMarks noVoices noNotes freshState emptyOf swapProgram compiled padded targetPlace verdict verdictsFrom verdicts candidates skippedOf inUse countedFeed usedDests feederOf readersOf reads hearsAudio isAudio controls audios planOrder order slewFor inputBy routeBy routeIn planBy plansOf allRoutes secondsOf ratePerSample namesTable anyNames slotNames hold max32 min32 isNan lt le eq add sub mul div ofInt setHeld setVoiceHeld setBase setAmount setOutput setVoiceLimit noteOn noteOff voiceEnded run doneBy noteCurve randomsSet alternates soundedOn ranksOn endedOf newestAfter marksOn marksEnded setNote setValue setGlide legatoTime endedNote arrives glideMoved heldBy drawVoices withVoices withAlternate withLimit putBases lookupOf position cellOf partOfCell reach moved slewStep step scrambled drawBits drawOf rowAt onRow keptAmount keptOutput clampTo finite ne neg toBits toUnsigned audioFrame audioFrames newAudio audioSum allPlain fromPart toPart isSounding absOf
 e16 = refl
 
 -- cases/t01-plain-zero-amount-keeps-audio.txt
@@ -500,7 +500,7 @@ c17 : List (List Call)
 c17 = ((swap 1) ∷ (held-set 0 (fin false 1 (pos 0))) ∷ (note-on 0 (record { key = (fin false 15 (pos 2)); velocity = (fin false 1 (pos 0)); legato = false; glide-seconds = (fin false 0 (pos 0)) })) ∷ (note-on 16 (record { key = (fin false 15 (pos 2)); velocity = (fin false 1 (pos 0)); legato = false; glide-seconds = (fin false 0 (pos 0)) })) ∷ (block ([]) (record { part = [] }) 0 1) ∷ []) ∷ ((voice-ended 16) ∷ (amount-set 0 (fin false 0 (pos 0))) ∷ (base-set 0 (fin false 1 (negsuc 0))) ∷ (block ([]) (record { part = [] }) 0 1) ∷ []) ∷ []
 
 e17 : reports c17 r17 ≡ (1065353216 ∷ 1065353216 ∷ 1065353216 ∷ 1065353216 ∷ 1065353216 ∷ 1065353216 ∷ 1065353216 ∷ 1065353216 ∷ 1065353216 ∷ 1065353216 ∷ 1065353216 ∷ 1065353216 ∷ 1065353216 ∷ 1065353216 ∷ 1065353216 ∷ 1065353216 ∷ 1065353216 ∷ 1065353216 ∷ 1065353216 ∷ 1065353216 ∷ 1065353216 ∷ 1065353216 ∷ 1065353216 ∷ 1065353216 ∷ 1065353216 ∷ 1065353216 ∷ 1065353216 ∷ 1065353216 ∷ 1065353216 ∷ 1065353216 ∷ 1065353216 ∷ 1065353216 ∷ []) ∷ (1056964608 ∷ 1056964608 ∷ 1056964608 ∷ 1056964608 ∷ 1056964608 ∷ 1056964608 ∷ 1056964608 ∷ 1056964608 ∷ 1056964608 ∷ 1056964608 ∷ 1056964608 ∷ 1056964608 ∷ 1056964608 ∷ 1056964608 ∷ 1056964608 ∷ 1056964608 ∷ 1065353216 ∷ 1065353216 ∷ 1065353216 ∷ 1065353216 ∷ 1065353216 ∷ 1065353216 ∷ 1065353216 ∷ 1065353216 ∷ 1065353216 ∷ 1065353216 ∷ 1065353216 ∷ 1065353216 ∷ 1065353216 ∷ 1065353216 ∷ 1065353216 ∷ 1065353216 ∷ []) ∷ []
-unfolding c17 r17 process judged chunkSteps chunkStep tickOf turns turn newRow newFrom newSlews slewsTo fillFrom tickSum others plains offsets somePlain plain routeValue inputIn inGroup sounding inSpan planAt routeAt partOf sampleIn fill part onPart rowsOfChunk audioOf audioPlans glided movedHeld advanced joined moving movedValue movedGlide chunkTotal chunkOf loadBy activeCount drawRoutes putState putHeld putGlobals putValues putAudio withVelocity withKey withMarks withPhase withBlock withPrimed withGains withProgram withDraw marksCleared marksSwapped noMarks noVoices noNotes freshState emptyOf swapProgram compiled padded targetPlace verdict verdictsFrom verdicts candidates skippedOf inUse countedFeed usedDests feederOf readersOf reads hearsAudio isAudio controls audios planOrder order slewFor inputBy routeBy routeIn planBy plansOf allRoutes secondsOf ratePerSample namesTable anyNames slotNames hold max32 min32 isNan lt le eq add sub mul div ofInt setHeld setVoiceHeld setBase setAmount setOutput setVoiceLimit noteOn noteOff voiceEnded run doneBy noteCurve randomsSet alternates soundedOn ranksOn endedOf newestAfter marksOn marksEnded setNote setValue setGlide legatoTime endedNote arrives glideMoved heldBy drawVoices withVoices withAlternate withLimit putBases lookupOf position cellOf partOfCell reach moved slewStep step scrambled drawBits drawOf rowAt onRow keptAmount keptOutput clampTo finite ne neg toBits toUnsigned audioFrame audioFrames newAudioRow audioSum allPlain fromPart toPart isSounding absOf
+unfolding c17 r17 process judged chunkSteps chunkStep tickOf turns turn newTo newFrom sourceAfter auxAfter putSlews fillFrom tickSum others plains offsets somePlain plain routeValue inputIn inGroup sounding inSpan planAt routeAt partOf sampleIn fill part onPart rowsOfChunk audioOf audioPlans glided movedHeld advanced joined moving movedValue movedGlide chunkTotal chunkOf loadBy activeCount drawRoutes putState putHeld putGlobals putValues putAudio withVelocity withKey withMarks withPhase withBlock withPrimed withGains withProgram withDraw marksCleared marksSwapped noMarks noVoices noNotes freshState emptyOf swapProgram compiled padded targetPlace verdict verdictsFrom verdicts candidates skippedOf inUse countedFeed usedDests feederOf readersOf reads hearsAudio isAudio controls audios planOrder order slewFor inputBy routeBy routeIn planBy plansOf allRoutes secondsOf ratePerSample namesTable anyNames slotNames hold max32 min32 isNan lt le eq add sub mul div ofInt setHeld setVoiceHeld setBase setAmount setOutput setVoiceLimit noteOn noteOff voiceEnded run doneBy noteCurve randomsSet alternates soundedOn ranksOn endedOf newestAfter marksOn marksEnded setNote setValue setGlide legatoTime endedNote arrives glideMoved heldBy drawVoices withVoices withAlternate withLimit putBases lookupOf position cellOf partOfCell reach moved slewStep step scrambled drawBits drawOf rowAt onRow keptAmount keptOutput clampTo finite ne neg toBits toUnsigned audioFrame audioFrames newAudio audioSum allPlain fromPart toPart isSounding absOf
 e17 = refl
 
 -- cases/t02-chunks-after-swap.txt
@@ -525,7 +525,7 @@ c18 : List (List Call)
 c18 = ((swap 1) ∷ (block ([]) (record { part = [] }) 0 40) ∷ []) ∷ ((swap 2) ∷ (swap 1) ∷ (block ([]) (record { part = [] }) 3 3) ∷ []) ∷ []
 
 e18 : reports c18 r18 ≡ (1056964608 ∷ 1056964608 ∷ 1056964608 ∷ 1056964608 ∷ []) ∷ (1056964608 ∷ 1056964608 ∷ 1056964608 ∷ 1056964608 ∷ []) ∷ []
-unfolding c18 r18 process judged chunkSteps chunkStep tickOf turns turn newRow newFrom newSlews slewsTo fillFrom tickSum others plains offsets somePlain plain routeValue inputIn inGroup sounding inSpan planAt routeAt partOf sampleIn fill part onPart rowsOfChunk audioOf audioPlans glided movedHeld advanced joined moving movedValue movedGlide chunkTotal chunkOf loadBy activeCount drawRoutes putState putHeld putGlobals putValues putAudio withVelocity withKey withMarks withPhase withBlock withPrimed withGains withProgram withDraw marksCleared marksSwapped noMarks noVoices noNotes freshState emptyOf swapProgram compiled padded targetPlace verdict verdictsFrom verdicts candidates skippedOf inUse countedFeed usedDests feederOf readersOf reads hearsAudio isAudio controls audios planOrder order slewFor inputBy routeBy routeIn planBy plansOf allRoutes secondsOf ratePerSample namesTable anyNames slotNames hold max32 min32 isNan lt le eq add sub mul div ofInt setHeld setVoiceHeld setBase setAmount setOutput setVoiceLimit noteOn noteOff voiceEnded run doneBy noteCurve randomsSet alternates soundedOn ranksOn endedOf newestAfter marksOn marksEnded setNote setValue setGlide legatoTime endedNote arrives glideMoved heldBy drawVoices withVoices withAlternate withLimit putBases lookupOf position cellOf partOfCell reach moved slewStep step scrambled drawBits drawOf rowAt onRow keptAmount keptOutput clampTo finite ne neg toBits toUnsigned audioFrame audioFrames newAudioRow audioSum allPlain fromPart toPart isSounding absOf
+unfolding c18 r18 process judged chunkSteps chunkStep tickOf turns turn newTo newFrom sourceAfter auxAfter putSlews fillFrom tickSum others plains offsets somePlain plain routeValue inputIn inGroup sounding inSpan planAt routeAt partOf sampleIn fill part onPart rowsOfChunk audioOf audioPlans glided movedHeld advanced joined moving movedValue movedGlide chunkTotal chunkOf loadBy activeCount drawRoutes putState putHeld putGlobals putValues putAudio withVelocity withKey withMarks withPhase withBlock withPrimed withGains withProgram withDraw marksCleared marksSwapped noMarks noVoices noNotes freshState emptyOf swapProgram compiled padded targetPlace verdict verdictsFrom verdicts candidates skippedOf inUse countedFeed usedDests feederOf readersOf reads hearsAudio isAudio controls audios planOrder order slewFor inputBy routeBy routeIn planBy plansOf allRoutes secondsOf ratePerSample namesTable anyNames slotNames hold max32 min32 isNan lt le eq add sub mul div ofInt setHeld setVoiceHeld setBase setAmount setOutput setVoiceLimit noteOn noteOff voiceEnded run doneBy noteCurve randomsSet alternates soundedOn ranksOn endedOf newestAfter marksOn marksEnded setNote setValue setGlide legatoTime endedNote arrives glideMoved heldBy drawVoices withVoices withAlternate withLimit putBases lookupOf position cellOf partOfCell reach moved slewStep step scrambled drawBits drawOf rowAt onRow keptAmount keptOutput clampTo finite ne neg toBits toUnsigned audioFrame audioFrames newAudio audioSum allPlain fromPart toPart isSounding absOf
 e18 = refl
 
 -- cases/t03-gain-overflow.txt
@@ -546,7 +546,7 @@ c19 : List (List Call)
 c19 = ((swap 1) ∷ (held-set 0 (fin false 1 (negsuc 0))) ∷ (note-on 0 (record { key = (fin false 15 (pos 2)); velocity = (fin false 1 (pos 0)); legato = false; glide-seconds = (fin false 0 (pos 0)) })) ∷ (block ([]) (record { part = [] }) 0 32) ∷ []) ∷ []
 
 e19 : reports c19 r19 ≡ (3221225472 ∷ 3221225472 ∷ 3221225472 ∷ 3221225472 ∷ 3221225472 ∷ 3221225472 ∷ 3221225472 ∷ 3221225472 ∷ 3221225472 ∷ 3221225472 ∷ 3221225472 ∷ 3221225472 ∷ 3221225472 ∷ 3221225472 ∷ 3221225472 ∷ 3221225472 ∷ 3221225472 ∷ 3221225472 ∷ 3221225472 ∷ 3221225472 ∷ 3221225472 ∷ 3221225472 ∷ 3221225472 ∷ 3221225472 ∷ 3221225472 ∷ 3221225472 ∷ 3221225472 ∷ 3221225472 ∷ 3221225472 ∷ 3221225472 ∷ 3221225472 ∷ 3221225472 ∷ 1073741824 ∷ 1073741824 ∷ 1073741824 ∷ 1073741824 ∷ 1073741824 ∷ 1073741824 ∷ 1073741824 ∷ 1073741824 ∷ 1073741824 ∷ 1073741824 ∷ 1073741824 ∷ 1073741824 ∷ 1073741824 ∷ 1073741824 ∷ 1073741824 ∷ 1073741824 ∷ 1073741824 ∷ 1073741824 ∷ 1073741824 ∷ 1073741824 ∷ 1073741824 ∷ 1073741824 ∷ 1073741824 ∷ 1073741824 ∷ 1073741824 ∷ 1073741824 ∷ 1073741824 ∷ 1073741824 ∷ 1073741824 ∷ 1073741824 ∷ 1073741824 ∷ 1073741824 ∷ []) ∷ []
-unfolding c19 r19 process judged chunkSteps chunkStep tickOf turns turn newRow newFrom newSlews slewsTo fillFrom tickSum others plains offsets somePlain plain routeValue inputIn inGroup sounding inSpan planAt routeAt partOf sampleIn fill part onPart rowsOfChunk audioOf audioPlans glided movedHeld advanced joined moving movedValue movedGlide chunkTotal chunkOf loadBy activeCount drawRoutes putState putHeld putGlobals putValues putAudio withVelocity withKey withMarks withPhase withBlock withPrimed withGains withProgram withDraw marksCleared marksSwapped noMarks noVoices noNotes freshState emptyOf swapProgram compiled padded targetPlace verdict verdictsFrom verdicts candidates skippedOf inUse countedFeed usedDests feederOf readersOf reads hearsAudio isAudio controls audios planOrder order slewFor inputBy routeBy routeIn planBy plansOf allRoutes secondsOf ratePerSample namesTable anyNames slotNames hold max32 min32 isNan lt le eq add sub mul div ofInt setHeld setVoiceHeld setBase setAmount setOutput setVoiceLimit noteOn noteOff voiceEnded run doneBy noteCurve randomsSet alternates soundedOn ranksOn endedOf newestAfter marksOn marksEnded setNote setValue setGlide legatoTime endedNote arrives glideMoved heldBy drawVoices withVoices withAlternate withLimit putBases lookupOf position cellOf partOfCell reach moved slewStep step scrambled drawBits drawOf rowAt onRow keptAmount keptOutput clampTo finite ne neg toBits toUnsigned audioFrame audioFrames newAudioRow audioSum allPlain fromPart toPart isSounding absOf
+unfolding c19 r19 process judged chunkSteps chunkStep tickOf turns turn newTo newFrom sourceAfter auxAfter putSlews fillFrom tickSum others plains offsets somePlain plain routeValue inputIn inGroup sounding inSpan planAt routeAt partOf sampleIn fill part onPart rowsOfChunk audioOf audioPlans glided movedHeld advanced joined moving movedValue movedGlide chunkTotal chunkOf loadBy activeCount drawRoutes putState putHeld putGlobals putValues putAudio withVelocity withKey withMarks withPhase withBlock withPrimed withGains withProgram withDraw marksCleared marksSwapped noMarks noVoices noNotes freshState emptyOf swapProgram compiled padded targetPlace verdict verdictsFrom verdicts candidates skippedOf inUse countedFeed usedDests feederOf readersOf reads hearsAudio isAudio controls audios planOrder order slewFor inputBy routeBy routeIn planBy plansOf allRoutes secondsOf ratePerSample namesTable anyNames slotNames hold max32 min32 isNan lt le eq add sub mul div ofInt setHeld setVoiceHeld setBase setAmount setOutput setVoiceLimit noteOn noteOff voiceEnded run doneBy noteCurve randomsSet alternates soundedOn ranksOn endedOf newestAfter marksOn marksEnded setNote setValue setGlide legatoTime endedNote arrives glideMoved heldBy drawVoices withVoices withAlternate withLimit putBases lookupOf position cellOf partOfCell reach moved slewStep step scrambled drawBits drawOf rowAt onRow keptAmount keptOutput clampTo finite ne neg toBits toUnsigned audioFrame audioFrames newAudio audioSum allPlain fromPart toPart isSounding absOf
 e19 = refl
 
 -- cases/t04-newest-group-slews.txt
@@ -567,7 +567,7 @@ c20 : List (List Call)
 c20 = ((swap 1) ∷ (note-on 0 (record { key = (fin false 15 (pos 2)); velocity = (fin false 1 (pos 0)); legato = false; glide-seconds = (fin false 0 (pos 0)) })) ∷ (note-on 1 (record { key = (fin false 15 (pos 2)); velocity = (fin false 1 (pos 0)); legato = false; glide-seconds = (fin false 0 (pos 0)) })) ∷ (note-on 17 (record { key = (fin false 15 (pos 2)); velocity = (fin false 1 (pos 0)); legato = false; glide-seconds = (fin false 0 (pos 0)) })) ∷ (note-on 1 (record { key = (fin false 15 (pos 2)); velocity = (fin false 1 (pos 0)); legato = false; glide-seconds = (fin false 0 (pos 0)) })) ∷ (block ([]) (record { part = [] }) 0 32) ∷ []) ∷ ((held-set 0 (fin false 1 (pos 0))) ∷ (block ([]) (record { part = [] }) 0 32) ∷ []) ∷ ((voice-ended 1) ∷ (block ([]) (record { part = [] }) 0 32) ∷ []) ∷ []
 
 e20 : reports c20 r20 ≡ (0 ∷ 0 ∷ []) ∷ (0 ∷ 1040187392 ∷ []) ∷ (1040187392 ∷ 1040187392 ∷ []) ∷ []
-unfolding c20 r20 process judged chunkSteps chunkStep tickOf turns turn newRow newFrom newSlews slewsTo fillFrom tickSum others plains offsets somePlain plain routeValue inputIn inGroup sounding inSpan planAt routeAt partOf sampleIn fill part onPart rowsOfChunk audioOf audioPlans glided movedHeld advanced joined moving movedValue movedGlide chunkTotal chunkOf loadBy activeCount drawRoutes putState putHeld putGlobals putValues putAudio withVelocity withKey withMarks withPhase withBlock withPrimed withGains withProgram withDraw marksCleared marksSwapped noMarks noVoices noNotes freshState emptyOf swapProgram compiled padded targetPlace verdict verdictsFrom verdicts candidates skippedOf inUse countedFeed usedDests feederOf readersOf reads hearsAudio isAudio controls audios planOrder order slewFor inputBy routeBy routeIn planBy plansOf allRoutes secondsOf ratePerSample namesTable anyNames slotNames hold max32 min32 isNan lt le eq add sub mul div ofInt setHeld setVoiceHeld setBase setAmount setOutput setVoiceLimit noteOn noteOff voiceEnded run doneBy noteCurve randomsSet alternates soundedOn ranksOn endedOf newestAfter marksOn marksEnded setNote setValue setGlide legatoTime endedNote arrives glideMoved heldBy drawVoices withVoices withAlternate withLimit putBases lookupOf position cellOf partOfCell reach moved slewStep step scrambled drawBits drawOf rowAt onRow keptAmount keptOutput clampTo finite ne neg toBits toUnsigned audioFrame audioFrames newAudioRow audioSum allPlain fromPart toPart isSounding absOf
+unfolding c20 r20 process judged chunkSteps chunkStep tickOf turns turn newTo newFrom sourceAfter auxAfter putSlews fillFrom tickSum others plains offsets somePlain plain routeValue inputIn inGroup sounding inSpan planAt routeAt partOf sampleIn fill part onPart rowsOfChunk audioOf audioPlans glided movedHeld advanced joined moving movedValue movedGlide chunkTotal chunkOf loadBy activeCount drawRoutes putState putHeld putGlobals putValues putAudio withVelocity withKey withMarks withPhase withBlock withPrimed withGains withProgram withDraw marksCleared marksSwapped noMarks noVoices noNotes freshState emptyOf swapProgram compiled padded targetPlace verdict verdictsFrom verdicts candidates skippedOf inUse countedFeed usedDests feederOf readersOf reads hearsAudio isAudio controls audios planOrder order slewFor inputBy routeBy routeIn planBy plansOf allRoutes secondsOf ratePerSample namesTable anyNames slotNames hold max32 min32 isNan lt le eq add sub mul div ofInt setHeld setVoiceHeld setBase setAmount setOutput setVoiceLimit noteOn noteOff voiceEnded run doneBy noteCurve randomsSet alternates soundedOn ranksOn endedOf newestAfter marksOn marksEnded setNote setValue setGlide legatoTime endedNote arrives glideMoved heldBy drawVoices withVoices withAlternate withLimit putBases lookupOf position cellOf partOfCell reach moved slewStep step scrambled drawBits drawOf rowAt onRow keptAmount keptOutput clampTo finite ne neg toBits toUnsigned audioFrame audioFrames newAudio audioSum allPlain fromPart toPart isSounding absOf
 e20 = refl
 
 -- cases/t05-slew-rounding.txt
@@ -588,7 +588,7 @@ c21 : List (List Call)
 c21 = ((swap 1) ∷ (note-on 0 (record { key = (fin false 15 (pos 2)); velocity = (fin false 1 (pos 0)); legato = false; glide-seconds = (fin false 0 (pos 0)) })) ∷ (held-set 0 (fin false 1 (pos 0))) ∷ (block ([]) (record { part = [] }) 0 32) ∷ []) ∷ ((held-set 0 (fin false 0 (pos 0))) ∷ (block ([]) (record { part = [] }) 0 32) ∷ []) ∷ []
 
 e21 : reports c21 r21 ≡ (1098907648 ∷ 1098907648 ∷ 1098907648 ∷ 1098907648 ∷ 1098907648 ∷ 1098907648 ∷ 1098907648 ∷ 1098907648 ∷ 1098907648 ∷ 1098907648 ∷ 1098907648 ∷ 1098907648 ∷ 1098907648 ∷ 1098907648 ∷ 1098907648 ∷ 1098907648 ∷ 1098907648 ∷ 1098907648 ∷ 1098907648 ∷ 1098907648 ∷ 1098907648 ∷ 1098907648 ∷ 1098907648 ∷ 1098907648 ∷ 1098907648 ∷ 1098907648 ∷ 1098907648 ∷ 1098907648 ∷ 1098907648 ∷ 1098907648 ∷ 1098907648 ∷ 1098907648 ∷ []) ∷ (1098907648 ∷ 1098907648 ∷ 1098907648 ∷ 1098907648 ∷ 1098907648 ∷ 1098907648 ∷ 1098907648 ∷ 1098907648 ∷ 1098907648 ∷ 1098907648 ∷ 1098907648 ∷ 1098907648 ∷ 1098907648 ∷ 1098907648 ∷ 1098907648 ∷ 1098907648 ∷ 1036832000 ∷ 1036832000 ∷ 1036832000 ∷ 1036832000 ∷ 1036832000 ∷ 1036832000 ∷ 1036832000 ∷ 1036832000 ∷ 1036832000 ∷ 1036832000 ∷ 1036832000 ∷ 1036832000 ∷ 1036832000 ∷ 1036832000 ∷ 1036832000 ∷ 1036832000 ∷ []) ∷ []
-unfolding c21 r21 process judged chunkSteps chunkStep tickOf turns turn newRow newFrom newSlews slewsTo fillFrom tickSum others plains offsets somePlain plain routeValue inputIn inGroup sounding inSpan planAt routeAt partOf sampleIn fill part onPart rowsOfChunk audioOf audioPlans glided movedHeld advanced joined moving movedValue movedGlide chunkTotal chunkOf loadBy activeCount drawRoutes putState putHeld putGlobals putValues putAudio withVelocity withKey withMarks withPhase withBlock withPrimed withGains withProgram withDraw marksCleared marksSwapped noMarks noVoices noNotes freshState emptyOf swapProgram compiled padded targetPlace verdict verdictsFrom verdicts candidates skippedOf inUse countedFeed usedDests feederOf readersOf reads hearsAudio isAudio controls audios planOrder order slewFor inputBy routeBy routeIn planBy plansOf allRoutes secondsOf ratePerSample namesTable anyNames slotNames hold max32 min32 isNan lt le eq add sub mul div ofInt setHeld setVoiceHeld setBase setAmount setOutput setVoiceLimit noteOn noteOff voiceEnded run doneBy noteCurve randomsSet alternates soundedOn ranksOn endedOf newestAfter marksOn marksEnded setNote setValue setGlide legatoTime endedNote arrives glideMoved heldBy drawVoices withVoices withAlternate withLimit putBases lookupOf position cellOf partOfCell reach moved slewStep step scrambled drawBits drawOf rowAt onRow keptAmount keptOutput clampTo finite ne neg toBits toUnsigned audioFrame audioFrames newAudioRow audioSum allPlain fromPart toPart isSounding absOf
+unfolding c21 r21 process judged chunkSteps chunkStep tickOf turns turn newTo newFrom sourceAfter auxAfter putSlews fillFrom tickSum others plains offsets somePlain plain routeValue inputIn inGroup sounding inSpan planAt routeAt partOf sampleIn fill part onPart rowsOfChunk audioOf audioPlans glided movedHeld advanced joined moving movedValue movedGlide chunkTotal chunkOf loadBy activeCount drawRoutes putState putHeld putGlobals putValues putAudio withVelocity withKey withMarks withPhase withBlock withPrimed withGains withProgram withDraw marksCleared marksSwapped noMarks noVoices noNotes freshState emptyOf swapProgram compiled padded targetPlace verdict verdictsFrom verdicts candidates skippedOf inUse countedFeed usedDests feederOf readersOf reads hearsAudio isAudio controls audios planOrder order slewFor inputBy routeBy routeIn planBy plansOf allRoutes secondsOf ratePerSample namesTable anyNames slotNames hold max32 min32 isNan lt le eq add sub mul div ofInt setHeld setVoiceHeld setBase setAmount setOutput setVoiceLimit noteOn noteOff voiceEnded run doneBy noteCurve randomsSet alternates soundedOn ranksOn endedOf newestAfter marksOn marksEnded setNote setValue setGlide legatoTime endedNote arrives glideMoved heldBy drawVoices withVoices withAlternate withLimit putBases lookupOf position cellOf partOfCell reach moved slewStep step scrambled drawBits drawOf rowAt onRow keptAmount keptOutput clampTo finite ne neg toBits toUnsigned audioFrame audioFrames newAudio audioSum allPlain fromPart toPart isSounding absOf
 e21 = refl
 
 -- cases/t06-glide-step-zero.txt
@@ -609,7 +609,7 @@ c22 : List (List Call)
 c22 = ((swap 1) ∷ (note-on 0 (record { key = (fin false 0 (pos 0)); velocity = (fin false 0 (pos 0)); legato = false; glide-seconds = (fin false 0 (pos 0)) })) ∷ (block ([]) (record { part = [] }) 0 32) ∷ []) ∷ ((note-on 0 (record { key = (fin false 127 (pos 0)); velocity = (fin false 1 (pos 0)); legato = true; glide-seconds = (fin false 9860761 (pos 103)) })) ∷ (block ([]) (record { part = [] }) 0 64) ∷ []) ∷ []
 
 e22 : reports c22 r22 ≡ (0 ∷ 0 ∷ 0 ∷ 0 ∷ 0 ∷ 0 ∷ 0 ∷ 0 ∷ 0 ∷ 0 ∷ 0 ∷ 0 ∷ 0 ∷ 0 ∷ 0 ∷ 0 ∷ 0 ∷ 0 ∷ 0 ∷ 0 ∷ 0 ∷ 0 ∷ 0 ∷ 0 ∷ 0 ∷ 0 ∷ 0 ∷ 0 ∷ 0 ∷ 0 ∷ 0 ∷ 0 ∷ []) ∷ (0 ∷ 0 ∷ 0 ∷ 0 ∷ 0 ∷ 0 ∷ 0 ∷ 0 ∷ 0 ∷ 0 ∷ 0 ∷ 0 ∷ 0 ∷ 0 ∷ 0 ∷ 0 ∷ 0 ∷ 0 ∷ 0 ∷ 0 ∷ 0 ∷ 0 ∷ 0 ∷ 0 ∷ 0 ∷ 0 ∷ 0 ∷ 0 ∷ 0 ∷ 0 ∷ 0 ∷ 0 ∷ 0 ∷ 0 ∷ 0 ∷ 0 ∷ 0 ∷ 0 ∷ 0 ∷ 0 ∷ 0 ∷ 0 ∷ 0 ∷ 0 ∷ 0 ∷ 0 ∷ 0 ∷ 0 ∷ 0 ∷ 0 ∷ 0 ∷ 0 ∷ 0 ∷ 0 ∷ 0 ∷ 0 ∷ 0 ∷ 0 ∷ 0 ∷ 0 ∷ 0 ∷ 0 ∷ 0 ∷ 0 ∷ []) ∷ []
-unfolding c22 r22 process judged chunkSteps chunkStep tickOf turns turn newRow newFrom newSlews slewsTo fillFrom tickSum others plains offsets somePlain plain routeValue inputIn inGroup sounding inSpan planAt routeAt partOf sampleIn fill part onPart rowsOfChunk audioOf audioPlans glided movedHeld advanced joined moving movedValue movedGlide chunkTotal chunkOf loadBy activeCount drawRoutes putState putHeld putGlobals putValues putAudio withVelocity withKey withMarks withPhase withBlock withPrimed withGains withProgram withDraw marksCleared marksSwapped noMarks noVoices noNotes freshState emptyOf swapProgram compiled padded targetPlace verdict verdictsFrom verdicts candidates skippedOf inUse countedFeed usedDests feederOf readersOf reads hearsAudio isAudio controls audios planOrder order slewFor inputBy routeBy routeIn planBy plansOf allRoutes secondsOf ratePerSample namesTable anyNames slotNames hold max32 min32 isNan lt le eq add sub mul div ofInt setHeld setVoiceHeld setBase setAmount setOutput setVoiceLimit noteOn noteOff voiceEnded run doneBy noteCurve randomsSet alternates soundedOn ranksOn endedOf newestAfter marksOn marksEnded setNote setValue setGlide legatoTime endedNote arrives glideMoved heldBy drawVoices withVoices withAlternate withLimit putBases lookupOf position cellOf partOfCell reach moved slewStep step scrambled drawBits drawOf rowAt onRow keptAmount keptOutput clampTo finite ne neg toBits toUnsigned audioFrame audioFrames newAudioRow audioSum allPlain fromPart toPart isSounding absOf
+unfolding c22 r22 process judged chunkSteps chunkStep tickOf turns turn newTo newFrom sourceAfter auxAfter putSlews fillFrom tickSum others plains offsets somePlain plain routeValue inputIn inGroup sounding inSpan planAt routeAt partOf sampleIn fill part onPart rowsOfChunk audioOf audioPlans glided movedHeld advanced joined moving movedValue movedGlide chunkTotal chunkOf loadBy activeCount drawRoutes putState putHeld putGlobals putValues putAudio withVelocity withKey withMarks withPhase withBlock withPrimed withGains withProgram withDraw marksCleared marksSwapped noMarks noVoices noNotes freshState emptyOf swapProgram compiled padded targetPlace verdict verdictsFrom verdicts candidates skippedOf inUse countedFeed usedDests feederOf readersOf reads hearsAudio isAudio controls audios planOrder order slewFor inputBy routeBy routeIn planBy plansOf allRoutes secondsOf ratePerSample namesTable anyNames slotNames hold max32 min32 isNan lt le eq add sub mul div ofInt setHeld setVoiceHeld setBase setAmount setOutput setVoiceLimit noteOn noteOff voiceEnded run doneBy noteCurve randomsSet alternates soundedOn ranksOn endedOf newestAfter marksOn marksEnded setNote setValue setGlide legatoTime endedNote arrives glideMoved heldBy drawVoices withVoices withAlternate withLimit putBases lookupOf position cellOf partOfCell reach moved slewStep step scrambled drawBits drawOf rowAt onRow keptAmount keptOutput clampTo finite ne neg toBits toUnsigned audioFrame audioFrames newAudio audioSum allPlain fromPart toPart isSounding absOf
 e22 = refl
 
 -- cases/t07-other-registry.txt
@@ -630,7 +630,7 @@ c23 : List (List Call)
 c23 = ((swap 1) ∷ (held-set 0 (fin false 3 (negsuc 1))) ∷ (note-on 0 (record { key = (fin false 15 (pos 2)); velocity = (fin false 1 (pos 0)); legato = false; glide-seconds = (fin false 0 (pos 0)) })) ∷ (block ([]) (record { part = [] }) 0 32) ∷ []) ∷ []
 
 e23 : reports c23 r23 ≡ (0 ∷ 0 ∷ 0 ∷ 0 ∷ 0 ∷ 0 ∷ 0 ∷ 0 ∷ 0 ∷ 0 ∷ 0 ∷ 0 ∷ 0 ∷ 0 ∷ 0 ∷ 0 ∷ 0 ∷ 0 ∷ 0 ∷ 0 ∷ 0 ∷ 0 ∷ 0 ∷ 0 ∷ 0 ∷ 0 ∷ 0 ∷ 0 ∷ 0 ∷ 0 ∷ 0 ∷ 0 ∷ []) ∷ []
-unfolding c23 r23 process judged chunkSteps chunkStep tickOf turns turn newRow newFrom newSlews slewsTo fillFrom tickSum others plains offsets somePlain plain routeValue inputIn inGroup sounding inSpan planAt routeAt partOf sampleIn fill part onPart rowsOfChunk audioOf audioPlans glided movedHeld advanced joined moving movedValue movedGlide chunkTotal chunkOf loadBy activeCount drawRoutes putState putHeld putGlobals putValues putAudio withVelocity withKey withMarks withPhase withBlock withPrimed withGains withProgram withDraw marksCleared marksSwapped noMarks noVoices noNotes freshState emptyOf swapProgram compiled padded targetPlace verdict verdictsFrom verdicts candidates skippedOf inUse countedFeed usedDests feederOf readersOf reads hearsAudio isAudio controls audios planOrder order slewFor inputBy routeBy routeIn planBy plansOf allRoutes secondsOf ratePerSample namesTable anyNames slotNames hold max32 min32 isNan lt le eq add sub mul div ofInt setHeld setVoiceHeld setBase setAmount setOutput setVoiceLimit noteOn noteOff voiceEnded run doneBy noteCurve randomsSet alternates soundedOn ranksOn endedOf newestAfter marksOn marksEnded setNote setValue setGlide legatoTime endedNote arrives glideMoved heldBy drawVoices withVoices withAlternate withLimit putBases lookupOf position cellOf partOfCell reach moved slewStep step scrambled drawBits drawOf rowAt onRow keptAmount keptOutput clampTo finite ne neg toBits toUnsigned audioFrame audioFrames newAudioRow audioSum allPlain fromPart toPart isSounding absOf
+unfolding c23 r23 process judged chunkSteps chunkStep tickOf turns turn newTo newFrom sourceAfter auxAfter putSlews fillFrom tickSum others plains offsets somePlain plain routeValue inputIn inGroup sounding inSpan planAt routeAt partOf sampleIn fill part onPart rowsOfChunk audioOf audioPlans glided movedHeld advanced joined moving movedValue movedGlide chunkTotal chunkOf loadBy activeCount drawRoutes putState putHeld putGlobals putValues putAudio withVelocity withKey withMarks withPhase withBlock withPrimed withGains withProgram withDraw marksCleared marksSwapped noMarks noVoices noNotes freshState emptyOf swapProgram compiled padded targetPlace verdict verdictsFrom verdicts candidates skippedOf inUse countedFeed usedDests feederOf readersOf reads hearsAudio isAudio controls audios planOrder order slewFor inputBy routeBy routeIn planBy plansOf allRoutes secondsOf ratePerSample namesTable anyNames slotNames hold max32 min32 isNan lt le eq add sub mul div ofInt setHeld setVoiceHeld setBase setAmount setOutput setVoiceLimit noteOn noteOff voiceEnded run doneBy noteCurve randomsSet alternates soundedOn ranksOn endedOf newestAfter marksOn marksEnded setNote setValue setGlide legatoTime endedNote arrives glideMoved heldBy drawVoices withVoices withAlternate withLimit putBases lookupOf position cellOf partOfCell reach moved slewStep step scrambled drawBits drawOf rowAt onRow keptAmount keptOutput clampTo finite ne neg toBits toUnsigned audioFrame audioFrames newAudio audioSum allPlain fromPart toPart isSounding absOf
 e23 = refl
 
 -- cases/t08-lookup-at-one.txt
@@ -651,7 +651,7 @@ c24 : List (List Call)
 c24 = ((swap 1) ∷ (note-on 0 (record { key = (fin false 0 (pos 0)); velocity = (fin false 1 (pos 0)); legato = false; glide-seconds = (fin false 0 (pos 0)) })) ∷ (block ([]) (record { part = [] }) 0 32) ∷ []) ∷ []
 
 e24 : reports c24 r24 ≡ (1036832000 ∷ 0 ∷ 0 ∷ 0 ∷ 0 ∷ 0 ∷ 0 ∷ 0 ∷ 0 ∷ 0 ∷ 0 ∷ 0 ∷ 0 ∷ 0 ∷ 0 ∷ 0 ∷ 1036832000 ∷ 0 ∷ 0 ∷ 0 ∷ 0 ∷ 0 ∷ 0 ∷ 0 ∷ 0 ∷ 0 ∷ 0 ∷ 0 ∷ 0 ∷ 0 ∷ 0 ∷ 0 ∷ []) ∷ []
-unfolding c24 r24 process judged chunkSteps chunkStep tickOf turns turn newRow newFrom newSlews slewsTo fillFrom tickSum others plains offsets somePlain plain routeValue inputIn inGroup sounding inSpan planAt routeAt partOf sampleIn fill part onPart rowsOfChunk audioOf audioPlans glided movedHeld advanced joined moving movedValue movedGlide chunkTotal chunkOf loadBy activeCount drawRoutes putState putHeld putGlobals putValues putAudio withVelocity withKey withMarks withPhase withBlock withPrimed withGains withProgram withDraw marksCleared marksSwapped noMarks noVoices noNotes freshState emptyOf swapProgram compiled padded targetPlace verdict verdictsFrom verdicts candidates skippedOf inUse countedFeed usedDests feederOf readersOf reads hearsAudio isAudio controls audios planOrder order slewFor inputBy routeBy routeIn planBy plansOf allRoutes secondsOf ratePerSample namesTable anyNames slotNames hold max32 min32 isNan lt le eq add sub mul div ofInt setHeld setVoiceHeld setBase setAmount setOutput setVoiceLimit noteOn noteOff voiceEnded run doneBy noteCurve randomsSet alternates soundedOn ranksOn endedOf newestAfter marksOn marksEnded setNote setValue setGlide legatoTime endedNote arrives glideMoved heldBy drawVoices withVoices withAlternate withLimit putBases lookupOf position cellOf partOfCell reach moved slewStep step scrambled drawBits drawOf rowAt onRow keptAmount keptOutput clampTo finite ne neg toBits toUnsigned audioFrame audioFrames newAudioRow audioSum allPlain fromPart toPart isSounding absOf
+unfolding c24 r24 process judged chunkSteps chunkStep tickOf turns turn newTo newFrom sourceAfter auxAfter putSlews fillFrom tickSum others plains offsets somePlain plain routeValue inputIn inGroup sounding inSpan planAt routeAt partOf sampleIn fill part onPart rowsOfChunk audioOf audioPlans glided movedHeld advanced joined moving movedValue movedGlide chunkTotal chunkOf loadBy activeCount drawRoutes putState putHeld putGlobals putValues putAudio withVelocity withKey withMarks withPhase withBlock withPrimed withGains withProgram withDraw marksCleared marksSwapped noMarks noVoices noNotes freshState emptyOf swapProgram compiled padded targetPlace verdict verdictsFrom verdicts candidates skippedOf inUse countedFeed usedDests feederOf readersOf reads hearsAudio isAudio controls audios planOrder order slewFor inputBy routeBy routeIn planBy plansOf allRoutes secondsOf ratePerSample namesTable anyNames slotNames hold max32 min32 isNan lt le eq add sub mul div ofInt setHeld setVoiceHeld setBase setAmount setOutput setVoiceLimit noteOn noteOff voiceEnded run doneBy noteCurve randomsSet alternates soundedOn ranksOn endedOf newestAfter marksOn marksEnded setNote setValue setGlide legatoTime endedNote arrives glideMoved heldBy drawVoices withVoices withAlternate withLimit putBases lookupOf position cellOf partOfCell reach moved slewStep step scrambled drawBits drawOf rowAt onRow keptAmount keptOutput clampTo finite ne neg toBits toUnsigned audioFrame audioFrames newAudio audioSum allPlain fromPart toPart isSounding absOf
 e24 = refl
 
 -- cases/t10-draw-order.txt
@@ -672,7 +672,7 @@ c25 : List (List Call)
 c25 = ((swap 1) ∷ (note-on 0 (record { key = (fin false 15 (pos 2)); velocity = (fin false 1 (pos 0)); legato = false; glide-seconds = (fin false 0 (pos 0)) })) ∷ (block ([]) (record { part = [] }) 0 1) ∷ []) ∷ []
 
 e25 : reports c25 r25 ≡ (1029192496 ∷ 0 ∷ 0 ∷ 0 ∷ 0 ∷ 0 ∷ 0 ∷ 0 ∷ 0 ∷ 0 ∷ 0 ∷ 0 ∷ 0 ∷ 0 ∷ 0 ∷ 0 ∷ 1029192496 ∷ 0 ∷ 0 ∷ 0 ∷ 0 ∷ 0 ∷ 0 ∷ 0 ∷ 0 ∷ 0 ∷ 0 ∷ 0 ∷ 0 ∷ 0 ∷ 0 ∷ 0 ∷ 1051297944 ∷ 0 ∷ 0 ∷ 0 ∷ 0 ∷ 0 ∷ 0 ∷ 0 ∷ 0 ∷ 0 ∷ 0 ∷ 0 ∷ 0 ∷ 0 ∷ 0 ∷ 0 ∷ 1051297944 ∷ 0 ∷ 0 ∷ 0 ∷ 0 ∷ 0 ∷ 0 ∷ 0 ∷ 0 ∷ 0 ∷ 0 ∷ 0 ∷ 0 ∷ 0 ∷ 0 ∷ 0 ∷ []) ∷ []
-unfolding c25 r25 process judged chunkSteps chunkStep tickOf turns turn newRow newFrom newSlews slewsTo fillFrom tickSum others plains offsets somePlain plain routeValue inputIn inGroup sounding inSpan planAt routeAt partOf sampleIn fill part onPart rowsOfChunk audioOf audioPlans glided movedHeld advanced joined moving movedValue movedGlide chunkTotal chunkOf loadBy activeCount drawRoutes putState putHeld putGlobals putValues putAudio withVelocity withKey withMarks withPhase withBlock withPrimed withGains withProgram withDraw marksCleared marksSwapped noMarks noVoices noNotes freshState emptyOf swapProgram compiled padded targetPlace verdict verdictsFrom verdicts candidates skippedOf inUse countedFeed usedDests feederOf readersOf reads hearsAudio isAudio controls audios planOrder order slewFor inputBy routeBy routeIn planBy plansOf allRoutes secondsOf ratePerSample namesTable anyNames slotNames hold max32 min32 isNan lt le eq add sub mul div ofInt setHeld setVoiceHeld setBase setAmount setOutput setVoiceLimit noteOn noteOff voiceEnded run doneBy noteCurve randomsSet alternates soundedOn ranksOn endedOf newestAfter marksOn marksEnded setNote setValue setGlide legatoTime endedNote arrives glideMoved heldBy drawVoices withVoices withAlternate withLimit putBases lookupOf position cellOf partOfCell reach moved slewStep step scrambled drawBits drawOf rowAt onRow keptAmount keptOutput clampTo finite ne neg toBits toUnsigned audioFrame audioFrames newAudioRow audioSum allPlain fromPart toPart isSounding absOf
+unfolding c25 r25 process judged chunkSteps chunkStep tickOf turns turn newTo newFrom sourceAfter auxAfter putSlews fillFrom tickSum others plains offsets somePlain plain routeValue inputIn inGroup sounding inSpan planAt routeAt partOf sampleIn fill part onPart rowsOfChunk audioOf audioPlans glided movedHeld advanced joined moving movedValue movedGlide chunkTotal chunkOf loadBy activeCount drawRoutes putState putHeld putGlobals putValues putAudio withVelocity withKey withMarks withPhase withBlock withPrimed withGains withProgram withDraw marksCleared marksSwapped noMarks noVoices noNotes freshState emptyOf swapProgram compiled padded targetPlace verdict verdictsFrom verdicts candidates skippedOf inUse countedFeed usedDests feederOf readersOf reads hearsAudio isAudio controls audios planOrder order slewFor inputBy routeBy routeIn planBy plansOf allRoutes secondsOf ratePerSample namesTable anyNames slotNames hold max32 min32 isNan lt le eq add sub mul div ofInt setHeld setVoiceHeld setBase setAmount setOutput setVoiceLimit noteOn noteOff voiceEnded run doneBy noteCurve randomsSet alternates soundedOn ranksOn endedOf newestAfter marksOn marksEnded setNote setValue setGlide legatoTime endedNote arrives glideMoved heldBy drawVoices withVoices withAlternate withLimit putBases lookupOf position cellOf partOfCell reach moved slewStep step scrambled drawBits drawOf rowAt onRow keptAmount keptOutput clampTo finite ne neg toBits toUnsigned audioFrame audioFrames newAudio audioSum allPlain fromPart toPart isSounding absOf
 e25 = refl
 
 -- cases/t11-held-apart-from-note-value.txt
@@ -693,7 +693,7 @@ c26 : List (List Call)
 c26 = ((swap 1) ∷ (note-on 0 (record { key = (fin false 0 (pos 0)); velocity = (fin false 0 (pos 0)); legato = false; glide-seconds = (fin false 0 (pos 0)) })) ∷ (held-set 0 (fin false 3 (negsuc 1))) ∷ (note-on 0 (record { key = (fin false 127 (pos 0)); velocity = (fin false 1 (pos 0)); legato = true; glide-seconds = (fin false 1 (pos 0)) })) ∷ (block ([]) (record { part = [] }) 0 64) ∷ []) ∷ []
 
 e26 : reports c26 r26 ≡ (1061158912 ∷ 1061158912 ∷ 1061158912 ∷ 1061158912 ∷ 1061158912 ∷ 1061158912 ∷ 1061158912 ∷ 1061158912 ∷ 1061158912 ∷ 1061158912 ∷ 1061158912 ∷ 1061158912 ∷ 1061158912 ∷ 1061158912 ∷ 1061158912 ∷ 1061158912 ∷ 1061158912 ∷ 1061158912 ∷ 1061158912 ∷ 1061158912 ∷ 1061158912 ∷ 1061158912 ∷ 1061158912 ∷ 1061158912 ∷ 1061158912 ∷ 1061158912 ∷ 1061158912 ∷ 1061158912 ∷ 1061158912 ∷ 1061158912 ∷ 1061158912 ∷ 1061158912 ∷ 1061158912 ∷ 1061158912 ∷ 1061158912 ∷ 1061158912 ∷ 1061158912 ∷ 1061158912 ∷ 1061158912 ∷ 1061158912 ∷ 1061158912 ∷ 1061158912 ∷ 1061158912 ∷ 1061158912 ∷ 1061158912 ∷ 1061158912 ∷ 1061158912 ∷ 1061158912 ∷ 1056964608 ∷ 1061158912 ∷ 1061158912 ∷ 1061158912 ∷ 1061158912 ∷ 1061158912 ∷ 1061158912 ∷ 1061158912 ∷ 1061158912 ∷ 1061158912 ∷ 1061158912 ∷ 1061158912 ∷ 1061158912 ∷ 1061158912 ∷ 1061158912 ∷ 1061158912 ∷ []) ∷ []
-unfolding c26 r26 process judged chunkSteps chunkStep tickOf turns turn newRow newFrom newSlews slewsTo fillFrom tickSum others plains offsets somePlain plain routeValue inputIn inGroup sounding inSpan planAt routeAt partOf sampleIn fill part onPart rowsOfChunk audioOf audioPlans glided movedHeld advanced joined moving movedValue movedGlide chunkTotal chunkOf loadBy activeCount drawRoutes putState putHeld putGlobals putValues putAudio withVelocity withKey withMarks withPhase withBlock withPrimed withGains withProgram withDraw marksCleared marksSwapped noMarks noVoices noNotes freshState emptyOf swapProgram compiled padded targetPlace verdict verdictsFrom verdicts candidates skippedOf inUse countedFeed usedDests feederOf readersOf reads hearsAudio isAudio controls audios planOrder order slewFor inputBy routeBy routeIn planBy plansOf allRoutes secondsOf ratePerSample namesTable anyNames slotNames hold max32 min32 isNan lt le eq add sub mul div ofInt setHeld setVoiceHeld setBase setAmount setOutput setVoiceLimit noteOn noteOff voiceEnded run doneBy noteCurve randomsSet alternates soundedOn ranksOn endedOf newestAfter marksOn marksEnded setNote setValue setGlide legatoTime endedNote arrives glideMoved heldBy drawVoices withVoices withAlternate withLimit putBases lookupOf position cellOf partOfCell reach moved slewStep step scrambled drawBits drawOf rowAt onRow keptAmount keptOutput clampTo finite ne neg toBits toUnsigned audioFrame audioFrames newAudioRow audioSum allPlain fromPart toPart isSounding absOf
+unfolding c26 r26 process judged chunkSteps chunkStep tickOf turns turn newTo newFrom sourceAfter auxAfter putSlews fillFrom tickSum others plains offsets somePlain plain routeValue inputIn inGroup sounding inSpan planAt routeAt partOf sampleIn fill part onPart rowsOfChunk audioOf audioPlans glided movedHeld advanced joined moving movedValue movedGlide chunkTotal chunkOf loadBy activeCount drawRoutes putState putHeld putGlobals putValues putAudio withVelocity withKey withMarks withPhase withBlock withPrimed withGains withProgram withDraw marksCleared marksSwapped noMarks noVoices noNotes freshState emptyOf swapProgram compiled padded targetPlace verdict verdictsFrom verdicts candidates skippedOf inUse countedFeed usedDests feederOf readersOf reads hearsAudio isAudio controls audios planOrder order slewFor inputBy routeBy routeIn planBy plansOf allRoutes secondsOf ratePerSample namesTable anyNames slotNames hold max32 min32 isNan lt le eq add sub mul div ofInt setHeld setVoiceHeld setBase setAmount setOutput setVoiceLimit noteOn noteOff voiceEnded run doneBy noteCurve randomsSet alternates soundedOn ranksOn endedOf newestAfter marksOn marksEnded setNote setValue setGlide legatoTime endedNote arrives glideMoved heldBy drawVoices withVoices withAlternate withLimit putBases lookupOf position cellOf partOfCell reach moved slewStep step scrambled drawBits drawOf rowAt onRow keptAmount keptOutput clampTo finite ne neg toBits toUnsigned audioFrame audioFrames newAudio audioSum allPlain fromPart toPart isSounding absOf
 e26 = refl
 
 -- cases/t12-kept-global-slew-snaps.txt
@@ -714,7 +714,7 @@ c27 : List (List Call)
 c27 = ((swap 1) ∷ (note-on 0 (record { key = (fin false 15 (pos 2)); velocity = (fin false 1 (pos 0)); legato = false; glide-seconds = (fin false 0 (pos 0)) })) ∷ (block ([]) (record { part = [] }) 0 5) ∷ []) ∷ ((held-set 0 (fin false 1 (pos 0))) ∷ (note-on 1 (record { key = (fin false 15 (pos 2)); velocity = (fin false 1 (pos 0)); legato = false; glide-seconds = (fin false 0 (pos 0)) })) ∷ (block ([]) (record { part = [] }) 0 27) ∷ []) ∷ []
 
 e27 : reports c27 r27 ≡ (0 ∷ 0 ∷ []) ∷ (0 ∷ 0 ∷ []) ∷ []
-unfolding c27 r27 process judged chunkSteps chunkStep tickOf turns turn newRow newFrom newSlews slewsTo fillFrom tickSum others plains offsets somePlain plain routeValue inputIn inGroup sounding inSpan planAt routeAt partOf sampleIn fill part onPart rowsOfChunk audioOf audioPlans glided movedHeld advanced joined moving movedValue movedGlide chunkTotal chunkOf loadBy activeCount drawRoutes putState putHeld putGlobals putValues putAudio withVelocity withKey withMarks withPhase withBlock withPrimed withGains withProgram withDraw marksCleared marksSwapped noMarks noVoices noNotes freshState emptyOf swapProgram compiled padded targetPlace verdict verdictsFrom verdicts candidates skippedOf inUse countedFeed usedDests feederOf readersOf reads hearsAudio isAudio controls audios planOrder order slewFor inputBy routeBy routeIn planBy plansOf allRoutes secondsOf ratePerSample namesTable anyNames slotNames hold max32 min32 isNan lt le eq add sub mul div ofInt setHeld setVoiceHeld setBase setAmount setOutput setVoiceLimit noteOn noteOff voiceEnded run doneBy noteCurve randomsSet alternates soundedOn ranksOn endedOf newestAfter marksOn marksEnded setNote setValue setGlide legatoTime endedNote arrives glideMoved heldBy drawVoices withVoices withAlternate withLimit putBases lookupOf position cellOf partOfCell reach moved slewStep step scrambled drawBits drawOf rowAt onRow keptAmount keptOutput clampTo finite ne neg toBits toUnsigned audioFrame audioFrames newAudioRow audioSum allPlain fromPart toPart isSounding absOf
+unfolding c27 r27 process judged chunkSteps chunkStep tickOf turns turn newTo newFrom sourceAfter auxAfter putSlews fillFrom tickSum others plains offsets somePlain plain routeValue inputIn inGroup sounding inSpan planAt routeAt partOf sampleIn fill part onPart rowsOfChunk audioOf audioPlans glided movedHeld advanced joined moving movedValue movedGlide chunkTotal chunkOf loadBy activeCount drawRoutes putState putHeld putGlobals putValues putAudio withVelocity withKey withMarks withPhase withBlock withPrimed withGains withProgram withDraw marksCleared marksSwapped noMarks noVoices noNotes freshState emptyOf swapProgram compiled padded targetPlace verdict verdictsFrom verdicts candidates skippedOf inUse countedFeed usedDests feederOf readersOf reads hearsAudio isAudio controls audios planOrder order slewFor inputBy routeBy routeIn planBy plansOf allRoutes secondsOf ratePerSample namesTable anyNames slotNames hold max32 min32 isNan lt le eq add sub mul div ofInt setHeld setVoiceHeld setBase setAmount setOutput setVoiceLimit noteOn noteOff voiceEnded run doneBy noteCurve randomsSet alternates soundedOn ranksOn endedOf newestAfter marksOn marksEnded setNote setValue setGlide legatoTime endedNote arrives glideMoved heldBy drawVoices withVoices withAlternate withLimit putBases lookupOf position cellOf partOfCell reach moved slewStep step scrambled drawBits drawOf rowAt onRow keptAmount keptOutput clampTo finite ne neg toBits toUnsigned audioFrame audioFrames newAudio audioSum allPlain fromPart toPart isSounding absOf
 e27 = refl
 
 -- cases/t13-global-slew-no-voice.txt
@@ -735,7 +735,7 @@ c28 : List (List Call)
 c28 = ((swap 1) ∷ (held-set 0 (fin false 1 (pos 0))) ∷ (block ([]) (record { part = [] }) 0 32) ∷ []) ∷ []
 
 e28 : reports c28 r28 ≡ (0 ∷ 0 ∷ 0 ∷ 0 ∷ 0 ∷ 0 ∷ 0 ∷ 0 ∷ 0 ∷ 0 ∷ 0 ∷ 0 ∷ 0 ∷ 0 ∷ 0 ∷ 0 ∷ 0 ∷ 0 ∷ 0 ∷ 0 ∷ 0 ∷ 0 ∷ 0 ∷ 0 ∷ 0 ∷ 0 ∷ 0 ∷ 0 ∷ 0 ∷ 0 ∷ 0 ∷ 0 ∷ []) ∷ []
-unfolding c28 r28 process judged chunkSteps chunkStep tickOf turns turn newRow newFrom newSlews slewsTo fillFrom tickSum others plains offsets somePlain plain routeValue inputIn inGroup sounding inSpan planAt routeAt partOf sampleIn fill part onPart rowsOfChunk audioOf audioPlans glided movedHeld advanced joined moving movedValue movedGlide chunkTotal chunkOf loadBy activeCount drawRoutes putState putHeld putGlobals putValues putAudio withVelocity withKey withMarks withPhase withBlock withPrimed withGains withProgram withDraw marksCleared marksSwapped noMarks noVoices noNotes freshState emptyOf swapProgram compiled padded targetPlace verdict verdictsFrom verdicts candidates skippedOf inUse countedFeed usedDests feederOf readersOf reads hearsAudio isAudio controls audios planOrder order slewFor inputBy routeBy routeIn planBy plansOf allRoutes secondsOf ratePerSample namesTable anyNames slotNames hold max32 min32 isNan lt le eq add sub mul div ofInt setHeld setVoiceHeld setBase setAmount setOutput setVoiceLimit noteOn noteOff voiceEnded run doneBy noteCurve randomsSet alternates soundedOn ranksOn endedOf newestAfter marksOn marksEnded setNote setValue setGlide legatoTime endedNote arrives glideMoved heldBy drawVoices withVoices withAlternate withLimit putBases lookupOf position cellOf partOfCell reach moved slewStep step scrambled drawBits drawOf rowAt onRow keptAmount keptOutput clampTo finite ne neg toBits toUnsigned audioFrame audioFrames newAudioRow audioSum allPlain fromPart toPart isSounding absOf
+unfolding c28 r28 process judged chunkSteps chunkStep tickOf turns turn newTo newFrom sourceAfter auxAfter putSlews fillFrom tickSum others plains offsets somePlain plain routeValue inputIn inGroup sounding inSpan planAt routeAt partOf sampleIn fill part onPart rowsOfChunk audioOf audioPlans glided movedHeld advanced joined moving movedValue movedGlide chunkTotal chunkOf loadBy activeCount drawRoutes putState putHeld putGlobals putValues putAudio withVelocity withKey withMarks withPhase withBlock withPrimed withGains withProgram withDraw marksCleared marksSwapped noMarks noVoices noNotes freshState emptyOf swapProgram compiled padded targetPlace verdict verdictsFrom verdicts candidates skippedOf inUse countedFeed usedDests feederOf readersOf reads hearsAudio isAudio controls audios planOrder order slewFor inputBy routeBy routeIn planBy plansOf allRoutes secondsOf ratePerSample namesTable anyNames slotNames hold max32 min32 isNan lt le eq add sub mul div ofInt setHeld setVoiceHeld setBase setAmount setOutput setVoiceLimit noteOn noteOff voiceEnded run doneBy noteCurve randomsSet alternates soundedOn ranksOn endedOf newestAfter marksOn marksEnded setNote setValue setGlide legatoTime endedNote arrives glideMoved heldBy drawVoices withVoices withAlternate withLimit putBases lookupOf position cellOf partOfCell reach moved slewStep step scrambled drawBits drawOf rowAt onRow keptAmount keptOutput clampTo finite ne neg toBits toUnsigned audioFrame audioFrames newAudio audioSum allPlain fromPart toPart isSounding absOf
 e28 = refl
 
 -- cases/t14-lower-self-feeder.txt
@@ -756,7 +756,7 @@ c29 : List (List Call)
 c29 = ((swap 1) ∷ (block ([]) (record { part = [] }) 0 32) ∷ []) ∷ ((amount-set 1 (fin false 1 (negsuc 0))) ∷ (block ([]) (record { part = [] }) 0 32) ∷ []) ∷ []
 
 e29 : reports c29 r29 ≡ (1065353216 ∷ 1065353216 ∷ 1065353216 ∷ 1065353216 ∷ []) ∷ (1065353216 ∷ 1056964608 ∷ 1065353216 ∷ 1056964608 ∷ []) ∷ []
-unfolding c29 r29 process judged chunkSteps chunkStep tickOf turns turn newRow newFrom newSlews slewsTo fillFrom tickSum others plains offsets somePlain plain routeValue inputIn inGroup sounding inSpan planAt routeAt partOf sampleIn fill part onPart rowsOfChunk audioOf audioPlans glided movedHeld advanced joined moving movedValue movedGlide chunkTotal chunkOf loadBy activeCount drawRoutes putState putHeld putGlobals putValues putAudio withVelocity withKey withMarks withPhase withBlock withPrimed withGains withProgram withDraw marksCleared marksSwapped noMarks noVoices noNotes freshState emptyOf swapProgram compiled padded targetPlace verdict verdictsFrom verdicts candidates skippedOf inUse countedFeed usedDests feederOf readersOf reads hearsAudio isAudio controls audios planOrder order slewFor inputBy routeBy routeIn planBy plansOf allRoutes secondsOf ratePerSample namesTable anyNames slotNames hold max32 min32 isNan lt le eq add sub mul div ofInt setHeld setVoiceHeld setBase setAmount setOutput setVoiceLimit noteOn noteOff voiceEnded run doneBy noteCurve randomsSet alternates soundedOn ranksOn endedOf newestAfter marksOn marksEnded setNote setValue setGlide legatoTime endedNote arrives glideMoved heldBy drawVoices withVoices withAlternate withLimit putBases lookupOf position cellOf partOfCell reach moved slewStep step scrambled drawBits drawOf rowAt onRow keptAmount keptOutput clampTo finite ne neg toBits toUnsigned audioFrame audioFrames newAudioRow audioSum allPlain fromPart toPart isSounding absOf
+unfolding c29 r29 process judged chunkSteps chunkStep tickOf turns turn newTo newFrom sourceAfter auxAfter putSlews fillFrom tickSum others plains offsets somePlain plain routeValue inputIn inGroup sounding inSpan planAt routeAt partOf sampleIn fill part onPart rowsOfChunk audioOf audioPlans glided movedHeld advanced joined moving movedValue movedGlide chunkTotal chunkOf loadBy activeCount drawRoutes putState putHeld putGlobals putValues putAudio withVelocity withKey withMarks withPhase withBlock withPrimed withGains withProgram withDraw marksCleared marksSwapped noMarks noVoices noNotes freshState emptyOf swapProgram compiled padded targetPlace verdict verdictsFrom verdicts candidates skippedOf inUse countedFeed usedDests feederOf readersOf reads hearsAudio isAudio controls audios planOrder order slewFor inputBy routeBy routeIn planBy plansOf allRoutes secondsOf ratePerSample namesTable anyNames slotNames hold max32 min32 isNan lt le eq add sub mul div ofInt setHeld setVoiceHeld setBase setAmount setOutput setVoiceLimit noteOn noteOff voiceEnded run doneBy noteCurve randomsSet alternates soundedOn ranksOn endedOf newestAfter marksOn marksEnded setNote setValue setGlide legatoTime endedNote arrives glideMoved heldBy drawVoices withVoices withAlternate withLimit putBases lookupOf position cellOf partOfCell reach moved slewStep step scrambled drawBits drawOf rowAt onRow keptAmount keptOutput clampTo finite ne neg toBits toUnsigned audioFrame audioFrames newAudio audioSum allPlain fromPart toPart isSounding absOf
 e29 = refl
 
 -- cases/t15-self-feed-reinstalled.txt
@@ -781,7 +781,7 @@ c30 : List (List Call)
 c30 = ((swap 1) ∷ (block ([]) (record { part = [] }) 0 32) ∷ []) ∷ ((block ([]) (record { part = [] }) 0 32) ∷ []) ∷ ((amount-set 1 (fin false 1 (negsuc 0))) ∷ (swap 2) ∷ (swap 1) ∷ (block ([]) (record { part = [] }) 0 32) ∷ []) ∷ []
 
 e30 : reports c30 r30 ≡ (1065353216 ∷ 1065353216 ∷ []) ∷ (1065353216 ∷ 1073741824 ∷ []) ∷ (1077936128 ∷ 1077936128 ∷ []) ∷ []
-unfolding c30 r30 process judged chunkSteps chunkStep tickOf turns turn newRow newFrom newSlews slewsTo fillFrom tickSum others plains offsets somePlain plain routeValue inputIn inGroup sounding inSpan planAt routeAt partOf sampleIn fill part onPart rowsOfChunk audioOf audioPlans glided movedHeld advanced joined moving movedValue movedGlide chunkTotal chunkOf loadBy activeCount drawRoutes putState putHeld putGlobals putValues putAudio withVelocity withKey withMarks withPhase withBlock withPrimed withGains withProgram withDraw marksCleared marksSwapped noMarks noVoices noNotes freshState emptyOf swapProgram compiled padded targetPlace verdict verdictsFrom verdicts candidates skippedOf inUse countedFeed usedDests feederOf readersOf reads hearsAudio isAudio controls audios planOrder order slewFor inputBy routeBy routeIn planBy plansOf allRoutes secondsOf ratePerSample namesTable anyNames slotNames hold max32 min32 isNan lt le eq add sub mul div ofInt setHeld setVoiceHeld setBase setAmount setOutput setVoiceLimit noteOn noteOff voiceEnded run doneBy noteCurve randomsSet alternates soundedOn ranksOn endedOf newestAfter marksOn marksEnded setNote setValue setGlide legatoTime endedNote arrives glideMoved heldBy drawVoices withVoices withAlternate withLimit putBases lookupOf position cellOf partOfCell reach moved slewStep step scrambled drawBits drawOf rowAt onRow keptAmount keptOutput clampTo finite ne neg toBits toUnsigned audioFrame audioFrames newAudioRow audioSum allPlain fromPart toPart isSounding absOf
+unfolding c30 r30 process judged chunkSteps chunkStep tickOf turns turn newTo newFrom sourceAfter auxAfter putSlews fillFrom tickSum others plains offsets somePlain plain routeValue inputIn inGroup sounding inSpan planAt routeAt partOf sampleIn fill part onPart rowsOfChunk audioOf audioPlans glided movedHeld advanced joined moving movedValue movedGlide chunkTotal chunkOf loadBy activeCount drawRoutes putState putHeld putGlobals putValues putAudio withVelocity withKey withMarks withPhase withBlock withPrimed withGains withProgram withDraw marksCleared marksSwapped noMarks noVoices noNotes freshState emptyOf swapProgram compiled padded targetPlace verdict verdictsFrom verdicts candidates skippedOf inUse countedFeed usedDests feederOf readersOf reads hearsAudio isAudio controls audios planOrder order slewFor inputBy routeBy routeIn planBy plansOf allRoutes secondsOf ratePerSample namesTable anyNames slotNames hold max32 min32 isNan lt le eq add sub mul div ofInt setHeld setVoiceHeld setBase setAmount setOutput setVoiceLimit noteOn noteOff voiceEnded run doneBy noteCurve randomsSet alternates soundedOn ranksOn endedOf newestAfter marksOn marksEnded setNote setValue setGlide legatoTime endedNote arrives glideMoved heldBy drawVoices withVoices withAlternate withLimit putBases lookupOf position cellOf partOfCell reach moved slewStep step scrambled drawBits drawOf rowAt onRow keptAmount keptOutput clampTo finite ne neg toBits toUnsigned audioFrame audioFrames newAudio audioSum allPlain fromPart toPart isSounding absOf
 e30 = refl
 
 -- cases/t16-load-no-routes.txt
@@ -802,7 +802,7 @@ c31 : List (List Call)
 c31 = ((note-on 0 (record { key = (fin false 15 (pos 2)); velocity = (fin false 1 (pos 0)); legato = false; glide-seconds = (fin false 0 (pos 0)) })) ∷ (block ([]) (record { part = [] }) 0 32) ∷ []) ∷ ((swap 1) ∷ (limit-set 0) ∷ (block ([]) (record { part = [] }) 0 32) ∷ []) ∷ ((limit-set 18446744073709551615) ∷ (block ([]) (record { part = [] }) 0 32) ∷ []) ∷ []
 
 e31 : reports c31 r31 ≡ ([]) ∷ (1065353216 ∷ 1065353216 ∷ []) ∷ (1065353216 ∷ 528482304 ∷ []) ∷ []
-unfolding c31 r31 process judged chunkSteps chunkStep tickOf turns turn newRow newFrom newSlews slewsTo fillFrom tickSum others plains offsets somePlain plain routeValue inputIn inGroup sounding inSpan planAt routeAt partOf sampleIn fill part onPart rowsOfChunk audioOf audioPlans glided movedHeld advanced joined moving movedValue movedGlide chunkTotal chunkOf loadBy activeCount drawRoutes putState putHeld putGlobals putValues putAudio withVelocity withKey withMarks withPhase withBlock withPrimed withGains withProgram withDraw marksCleared marksSwapped noMarks noVoices noNotes freshState emptyOf swapProgram compiled padded targetPlace verdict verdictsFrom verdicts candidates skippedOf inUse countedFeed usedDests feederOf readersOf reads hearsAudio isAudio controls audios planOrder order slewFor inputBy routeBy routeIn planBy plansOf allRoutes secondsOf ratePerSample namesTable anyNames slotNames hold max32 min32 isNan lt le eq add sub mul div ofInt setHeld setVoiceHeld setBase setAmount setOutput setVoiceLimit noteOn noteOff voiceEnded run doneBy noteCurve randomsSet alternates soundedOn ranksOn endedOf newestAfter marksOn marksEnded setNote setValue setGlide legatoTime endedNote arrives glideMoved heldBy drawVoices withVoices withAlternate withLimit putBases lookupOf position cellOf partOfCell reach moved slewStep step scrambled drawBits drawOf rowAt onRow keptAmount keptOutput clampTo finite ne neg toBits toUnsigned audioFrame audioFrames newAudioRow audioSum allPlain fromPart toPart isSounding absOf
+unfolding c31 r31 process judged chunkSteps chunkStep tickOf turns turn newTo newFrom sourceAfter auxAfter putSlews fillFrom tickSum others plains offsets somePlain plain routeValue inputIn inGroup sounding inSpan planAt routeAt partOf sampleIn fill part onPart rowsOfChunk audioOf audioPlans glided movedHeld advanced joined moving movedValue movedGlide chunkTotal chunkOf loadBy activeCount drawRoutes putState putHeld putGlobals putValues putAudio withVelocity withKey withMarks withPhase withBlock withPrimed withGains withProgram withDraw marksCleared marksSwapped noMarks noVoices noNotes freshState emptyOf swapProgram compiled padded targetPlace verdict verdictsFrom verdicts candidates skippedOf inUse countedFeed usedDests feederOf readersOf reads hearsAudio isAudio controls audios planOrder order slewFor inputBy routeBy routeIn planBy plansOf allRoutes secondsOf ratePerSample namesTable anyNames slotNames hold max32 min32 isNan lt le eq add sub mul div ofInt setHeld setVoiceHeld setBase setAmount setOutput setVoiceLimit noteOn noteOff voiceEnded run doneBy noteCurve randomsSet alternates soundedOn ranksOn endedOf newestAfter marksOn marksEnded setNote setValue setGlide legatoTime endedNote arrives glideMoved heldBy drawVoices withVoices withAlternate withLimit putBases lookupOf position cellOf partOfCell reach moved slewStep step scrambled drawBits drawOf rowAt onRow keptAmount keptOutput clampTo finite ne neg toBits toUnsigned audioFrame audioFrames newAudio audioSum allPlain fromPart toPart isSounding absOf
 e31 = refl
 
 -- cases/t17-global-input-voice-route-snaps.txt
@@ -823,7 +823,7 @@ c32 : List (List Call)
 c32 = ((swap 1) ∷ (held-set 0 (fin false 1 (pos 0))) ∷ (held-set 1 (fin false 1 (pos 0))) ∷ (note-on 0 (record { key = (fin false 15 (pos 2)); velocity = (fin false 1 (pos 0)); legato = false; glide-seconds = (fin false 0 (pos 0)) })) ∷ (block ([]) (record { part = [] }) 0 32) ∷ []) ∷ []
 
 e32 : reports c32 r32 ≡ (1065353216 ∷ 1056964608 ∷ 1056964608 ∷ 1056964608 ∷ 1056964608 ∷ 1056964608 ∷ 1056964608 ∷ 1056964608 ∷ 1056964608 ∷ 1056964608 ∷ 1056964608 ∷ 1056964608 ∷ 1056964608 ∷ 1056964608 ∷ 1056964608 ∷ 1056964608 ∷ 1065353216 ∷ 1056964608 ∷ 1056964608 ∷ 1056964608 ∷ 1056964608 ∷ 1056964608 ∷ 1056964608 ∷ 1056964608 ∷ 1056964608 ∷ 1056964608 ∷ 1056964608 ∷ 1056964608 ∷ 1056964608 ∷ 1056964608 ∷ 1056964608 ∷ 1056964608 ∷ []) ∷ []
-unfolding c32 r32 process judged chunkSteps chunkStep tickOf turns turn newRow newFrom newSlews slewsTo fillFrom tickSum others plains offsets somePlain plain routeValue inputIn inGroup sounding inSpan planAt routeAt partOf sampleIn fill part onPart rowsOfChunk audioOf audioPlans glided movedHeld advanced joined moving movedValue movedGlide chunkTotal chunkOf loadBy activeCount drawRoutes putState putHeld putGlobals putValues putAudio withVelocity withKey withMarks withPhase withBlock withPrimed withGains withProgram withDraw marksCleared marksSwapped noMarks noVoices noNotes freshState emptyOf swapProgram compiled padded targetPlace verdict verdictsFrom verdicts candidates skippedOf inUse countedFeed usedDests feederOf readersOf reads hearsAudio isAudio controls audios planOrder order slewFor inputBy routeBy routeIn planBy plansOf allRoutes secondsOf ratePerSample namesTable anyNames slotNames hold max32 min32 isNan lt le eq add sub mul div ofInt setHeld setVoiceHeld setBase setAmount setOutput setVoiceLimit noteOn noteOff voiceEnded run doneBy noteCurve randomsSet alternates soundedOn ranksOn endedOf newestAfter marksOn marksEnded setNote setValue setGlide legatoTime endedNote arrives glideMoved heldBy drawVoices withVoices withAlternate withLimit putBases lookupOf position cellOf partOfCell reach moved slewStep step scrambled drawBits drawOf rowAt onRow keptAmount keptOutput clampTo finite ne neg toBits toUnsigned audioFrame audioFrames newAudioRow audioSum allPlain fromPart toPart isSounding absOf
+unfolding c32 r32 process judged chunkSteps chunkStep tickOf turns turn newTo newFrom sourceAfter auxAfter putSlews fillFrom tickSum others plains offsets somePlain plain routeValue inputIn inGroup sounding inSpan planAt routeAt partOf sampleIn fill part onPart rowsOfChunk audioOf audioPlans glided movedHeld advanced joined moving movedValue movedGlide chunkTotal chunkOf loadBy activeCount drawRoutes putState putHeld putGlobals putValues putAudio withVelocity withKey withMarks withPhase withBlock withPrimed withGains withProgram withDraw marksCleared marksSwapped noMarks noVoices noNotes freshState emptyOf swapProgram compiled padded targetPlace verdict verdictsFrom verdicts candidates skippedOf inUse countedFeed usedDests feederOf readersOf reads hearsAudio isAudio controls audios planOrder order slewFor inputBy routeBy routeIn planBy plansOf allRoutes secondsOf ratePerSample namesTable anyNames slotNames hold max32 min32 isNan lt le eq add sub mul div ofInt setHeld setVoiceHeld setBase setAmount setOutput setVoiceLimit noteOn noteOff voiceEnded run doneBy noteCurve randomsSet alternates soundedOn ranksOn endedOf newestAfter marksOn marksEnded setNote setValue setGlide legatoTime endedNote arrives glideMoved heldBy drawVoices withVoices withAlternate withLimit putBases lookupOf position cellOf partOfCell reach moved slewStep step scrambled drawBits drawOf rowAt onRow keptAmount keptOutput clampTo finite ne neg toBits toUnsigned audioFrame audioFrames newAudio audioSum allPlain fromPart toPart isSounding absOf
 e32 = refl
 
 -- cases/t18-group-lane-reads-own-feeder.txt
@@ -844,7 +844,7 @@ c33 : List (List Call)
 c33 = ((swap 1) ∷ (note-on 0 (record { key = (fin false 15 (pos 2)); velocity = (fin false 1 (pos 0)); legato = false; glide-seconds = (fin false 0 (pos 0)) })) ∷ (note-on 1 (record { key = (fin false 15 (pos 2)); velocity = (fin false 1 (pos 0)); legato = false; glide-seconds = (fin false 0 (pos 0)) })) ∷ (voice-held-set 1 0 (fin false 1 (pos 0))) ∷ (voice-held-set 1 1 (fin false 1 (negsuc 0))) ∷ (block ([]) (record { part = [] }) 0 32) ∷ []) ∷ ((voice-ended 1) ∷ (block ([]) (record { part = [] }) 0 32) ∷ []) ∷ []
 
 e33 : reports c33 r33 ≡ (1056964608 ∷ 1056964608 ∷ 1065353216 ∷ 1056964608 ∷ 0 ∷ 0 ∷ 0 ∷ 0 ∷ 0 ∷ 0 ∷ 0 ∷ 0 ∷ 0 ∷ 0 ∷ 0 ∷ 0 ∷ 0 ∷ 0 ∷ 1065353216 ∷ 1056964608 ∷ 0 ∷ 0 ∷ 0 ∷ 0 ∷ 0 ∷ 0 ∷ 0 ∷ 0 ∷ 0 ∷ 0 ∷ 0 ∷ 0 ∷ 0 ∷ 0 ∷ []) ∷ (1056964608 ∷ 1065353216 ∷ 1065353216 ∷ 1056964608 ∷ 0 ∷ 0 ∷ 0 ∷ 0 ∷ 0 ∷ 0 ∷ 0 ∷ 0 ∷ 0 ∷ 0 ∷ 0 ∷ 0 ∷ 0 ∷ 0 ∷ 1065353216 ∷ 1056964608 ∷ 0 ∷ 0 ∷ 0 ∷ 0 ∷ 0 ∷ 0 ∷ 0 ∷ 0 ∷ 0 ∷ 0 ∷ 0 ∷ 0 ∷ 0 ∷ 0 ∷ []) ∷ []
-unfolding c33 r33 process judged chunkSteps chunkStep tickOf turns turn newRow newFrom newSlews slewsTo fillFrom tickSum others plains offsets somePlain plain routeValue inputIn inGroup sounding inSpan planAt routeAt partOf sampleIn fill part onPart rowsOfChunk audioOf audioPlans glided movedHeld advanced joined moving movedValue movedGlide chunkTotal chunkOf loadBy activeCount drawRoutes putState putHeld putGlobals putValues putAudio withVelocity withKey withMarks withPhase withBlock withPrimed withGains withProgram withDraw marksCleared marksSwapped noMarks noVoices noNotes freshState emptyOf swapProgram compiled padded targetPlace verdict verdictsFrom verdicts candidates skippedOf inUse countedFeed usedDests feederOf readersOf reads hearsAudio isAudio controls audios planOrder order slewFor inputBy routeBy routeIn planBy plansOf allRoutes secondsOf ratePerSample namesTable anyNames slotNames hold max32 min32 isNan lt le eq add sub mul div ofInt setHeld setVoiceHeld setBase setAmount setOutput setVoiceLimit noteOn noteOff voiceEnded run doneBy noteCurve randomsSet alternates soundedOn ranksOn endedOf newestAfter marksOn marksEnded setNote setValue setGlide legatoTime endedNote arrives glideMoved heldBy drawVoices withVoices withAlternate withLimit putBases lookupOf position cellOf partOfCell reach moved slewStep step scrambled drawBits drawOf rowAt onRow keptAmount keptOutput clampTo finite ne neg toBits toUnsigned audioFrame audioFrames newAudioRow audioSum allPlain fromPart toPart isSounding absOf
+unfolding c33 r33 process judged chunkSteps chunkStep tickOf turns turn newTo newFrom sourceAfter auxAfter putSlews fillFrom tickSum others plains offsets somePlain plain routeValue inputIn inGroup sounding inSpan planAt routeAt partOf sampleIn fill part onPart rowsOfChunk audioOf audioPlans glided movedHeld advanced joined moving movedValue movedGlide chunkTotal chunkOf loadBy activeCount drawRoutes putState putHeld putGlobals putValues putAudio withVelocity withKey withMarks withPhase withBlock withPrimed withGains withProgram withDraw marksCleared marksSwapped noMarks noVoices noNotes freshState emptyOf swapProgram compiled padded targetPlace verdict verdictsFrom verdicts candidates skippedOf inUse countedFeed usedDests feederOf readersOf reads hearsAudio isAudio controls audios planOrder order slewFor inputBy routeBy routeIn planBy plansOf allRoutes secondsOf ratePerSample namesTable anyNames slotNames hold max32 min32 isNan lt le eq add sub mul div ofInt setHeld setVoiceHeld setBase setAmount setOutput setVoiceLimit noteOn noteOff voiceEnded run doneBy noteCurve randomsSet alternates soundedOn ranksOn endedOf newestAfter marksOn marksEnded setNote setValue setGlide legatoTime endedNote arrives glideMoved heldBy drawVoices withVoices withAlternate withLimit putBases lookupOf position cellOf partOfCell reach moved slewStep step scrambled drawBits drawOf rowAt onRow keptAmount keptOutput clampTo finite ne neg toBits toUnsigned audioFrame audioFrames newAudio audioSum allPlain fromPart toPart isSounding absOf
 e33 = refl
 
 -- cases/t19-swap-offphase-active.txt
@@ -869,7 +869,7 @@ c34 : List (List Call)
 c34 = ((note-on 0 (record { key = (fin false 15 (pos 2)); velocity = (fin false 1 (pos 0)); legato = false; glide-seconds = (fin false 0 (pos 0)) })) ∷ (block ([]) (record { part = [] }) 0 5) ∷ []) ∷ ((swap 1) ∷ (block ([]) (record { part = [] }) 0 5) ∷ []) ∷ ((voice-ended 0) ∷ (swap 2) ∷ (block ([]) (record { part = [] }) 0 5) ∷ []) ∷ []
 
 e34 : reports c34 r34 ≡ ([]) ∷ (1056964608 ∷ 1056964608 ∷ []) ∷ (0 ∷ 0 ∷ []) ∷ []
-unfolding c34 r34 process judged chunkSteps chunkStep tickOf turns turn newRow newFrom newSlews slewsTo fillFrom tickSum others plains offsets somePlain plain routeValue inputIn inGroup sounding inSpan planAt routeAt partOf sampleIn fill part onPart rowsOfChunk audioOf audioPlans glided movedHeld advanced joined moving movedValue movedGlide chunkTotal chunkOf loadBy activeCount drawRoutes putState putHeld putGlobals putValues putAudio withVelocity withKey withMarks withPhase withBlock withPrimed withGains withProgram withDraw marksCleared marksSwapped noMarks noVoices noNotes freshState emptyOf swapProgram compiled padded targetPlace verdict verdictsFrom verdicts candidates skippedOf inUse countedFeed usedDests feederOf readersOf reads hearsAudio isAudio controls audios planOrder order slewFor inputBy routeBy routeIn planBy plansOf allRoutes secondsOf ratePerSample namesTable anyNames slotNames hold max32 min32 isNan lt le eq add sub mul div ofInt setHeld setVoiceHeld setBase setAmount setOutput setVoiceLimit noteOn noteOff voiceEnded run doneBy noteCurve randomsSet alternates soundedOn ranksOn endedOf newestAfter marksOn marksEnded setNote setValue setGlide legatoTime endedNote arrives glideMoved heldBy drawVoices withVoices withAlternate withLimit putBases lookupOf position cellOf partOfCell reach moved slewStep step scrambled drawBits drawOf rowAt onRow keptAmount keptOutput clampTo finite ne neg toBits toUnsigned audioFrame audioFrames newAudioRow audioSum allPlain fromPart toPart isSounding absOf
+unfolding c34 r34 process judged chunkSteps chunkStep tickOf turns turn newTo newFrom sourceAfter auxAfter putSlews fillFrom tickSum others plains offsets somePlain plain routeValue inputIn inGroup sounding inSpan planAt routeAt partOf sampleIn fill part onPart rowsOfChunk audioOf audioPlans glided movedHeld advanced joined moving movedValue movedGlide chunkTotal chunkOf loadBy activeCount drawRoutes putState putHeld putGlobals putValues putAudio withVelocity withKey withMarks withPhase withBlock withPrimed withGains withProgram withDraw marksCleared marksSwapped noMarks noVoices noNotes freshState emptyOf swapProgram compiled padded targetPlace verdict verdictsFrom verdicts candidates skippedOf inUse countedFeed usedDests feederOf readersOf reads hearsAudio isAudio controls audios planOrder order slewFor inputBy routeBy routeIn planBy plansOf allRoutes secondsOf ratePerSample namesTable anyNames slotNames hold max32 min32 isNan lt le eq add sub mul div ofInt setHeld setVoiceHeld setBase setAmount setOutput setVoiceLimit noteOn noteOff voiceEnded run doneBy noteCurve randomsSet alternates soundedOn ranksOn endedOf newestAfter marksOn marksEnded setNote setValue setGlide legatoTime endedNote arrives glideMoved heldBy drawVoices withVoices withAlternate withLimit putBases lookupOf position cellOf partOfCell reach moved slewStep step scrambled drawBits drawOf rowAt onRow keptAmount keptOutput clampTo finite ne neg toBits toUnsigned audioFrame audioFrames newAudio audioSum allPlain fromPart toPart isSounding absOf
 e34 = refl
 
 -- cases/t20-audio-nan-bounds.txt
@@ -890,7 +890,7 @@ c35 : List (List Call)
 c35 = ((swap 1) ∷ (block (nan ∷ []) (record { part = record { at = 0; len = 1; stride = 0 } ∷ [] }) 0 1) ∷ []) ∷ []
 
 e35 : reports c35 r35 ≡ (2143289344 ∷ 4286578688 ∷ 4286578688 ∷ 4286578688 ∷ []) ∷ []
-unfolding c35 r35 process judged chunkSteps chunkStep tickOf turns turn newRow newFrom newSlews slewsTo fillFrom tickSum others plains offsets somePlain plain routeValue inputIn inGroup sounding inSpan planAt routeAt partOf sampleIn fill part onPart rowsOfChunk audioOf audioPlans glided movedHeld advanced joined moving movedValue movedGlide chunkTotal chunkOf loadBy activeCount drawRoutes putState putHeld putGlobals putValues putAudio withVelocity withKey withMarks withPhase withBlock withPrimed withGains withProgram withDraw marksCleared marksSwapped noMarks noVoices noNotes freshState emptyOf swapProgram compiled padded targetPlace verdict verdictsFrom verdicts candidates skippedOf inUse countedFeed usedDests feederOf readersOf reads hearsAudio isAudio controls audios planOrder order slewFor inputBy routeBy routeIn planBy plansOf allRoutes secondsOf ratePerSample namesTable anyNames slotNames hold max32 min32 isNan lt le eq add sub mul div ofInt setHeld setVoiceHeld setBase setAmount setOutput setVoiceLimit noteOn noteOff voiceEnded run doneBy noteCurve randomsSet alternates soundedOn ranksOn endedOf newestAfter marksOn marksEnded setNote setValue setGlide legatoTime endedNote arrives glideMoved heldBy drawVoices withVoices withAlternate withLimit putBases lookupOf position cellOf partOfCell reach moved slewStep step scrambled drawBits drawOf rowAt onRow keptAmount keptOutput clampTo finite ne neg toBits toUnsigned audioFrame audioFrames newAudioRow audioSum allPlain fromPart toPart isSounding absOf
+unfolding c35 r35 process judged chunkSteps chunkStep tickOf turns turn newTo newFrom sourceAfter auxAfter putSlews fillFrom tickSum others plains offsets somePlain plain routeValue inputIn inGroup sounding inSpan planAt routeAt partOf sampleIn fill part onPart rowsOfChunk audioOf audioPlans glided movedHeld advanced joined moving movedValue movedGlide chunkTotal chunkOf loadBy activeCount drawRoutes putState putHeld putGlobals putValues putAudio withVelocity withKey withMarks withPhase withBlock withPrimed withGains withProgram withDraw marksCleared marksSwapped noMarks noVoices noNotes freshState emptyOf swapProgram compiled padded targetPlace verdict verdictsFrom verdicts candidates skippedOf inUse countedFeed usedDests feederOf readersOf reads hearsAudio isAudio controls audios planOrder order slewFor inputBy routeBy routeIn planBy plansOf allRoutes secondsOf ratePerSample namesTable anyNames slotNames hold max32 min32 isNan lt le eq add sub mul div ofInt setHeld setVoiceHeld setBase setAmount setOutput setVoiceLimit noteOn noteOff voiceEnded run doneBy noteCurve randomsSet alternates soundedOn ranksOn endedOf newestAfter marksOn marksEnded setNote setValue setGlide legatoTime endedNote arrives glideMoved heldBy drawVoices withVoices withAlternate withLimit putBases lookupOf position cellOf partOfCell reach moved slewStep step scrambled drawBits drawOf rowAt onRow keptAmount keptOutput clampTo finite ne neg toBits toUnsigned audioFrame audioFrames newAudio audioSum allPlain fromPart toPart isSounding absOf
 e35 = refl
 
 -- cases/t22-legato-renote-no-fresh.txt
@@ -911,7 +911,7 @@ c36 : List (List Call)
 c36 = ((swap 1) ∷ (block ([]) (record { part = [] }) 0 5) ∷ []) ∷ ((note-on 1 (record { key = (fin false 15 (pos 2)); velocity = (fin false 1 (pos 0)); legato = true; glide-seconds = (fin false 0 (pos 0)) })) ∷ (block ([]) (record { part = [] }) 0 5) ∷ []) ∷ []
 
 e36 : reports c36 r36 ≡ (0 ∷ 0 ∷ 0 ∷ 0 ∷ 0 ∷ 0 ∷ 0 ∷ 0 ∷ 0 ∷ 0 ∷ 0 ∷ 0 ∷ 0 ∷ 0 ∷ 0 ∷ 0 ∷ 0 ∷ 0 ∷ 0 ∷ 0 ∷ 0 ∷ 0 ∷ 0 ∷ 0 ∷ 0 ∷ 0 ∷ 0 ∷ 0 ∷ 0 ∷ 0 ∷ 0 ∷ 0 ∷ []) ∷ (0 ∷ 0 ∷ 0 ∷ 0 ∷ 0 ∷ 0 ∷ 0 ∷ 0 ∷ 0 ∷ 0 ∷ 0 ∷ 0 ∷ 0 ∷ 0 ∷ 0 ∷ 0 ∷ 0 ∷ 0 ∷ 0 ∷ 0 ∷ 0 ∷ 0 ∷ 0 ∷ 0 ∷ 0 ∷ 0 ∷ 0 ∷ 0 ∷ 0 ∷ 0 ∷ 0 ∷ 0 ∷ []) ∷ []
-unfolding c36 r36 process judged chunkSteps chunkStep tickOf turns turn newRow newFrom newSlews slewsTo fillFrom tickSum others plains offsets somePlain plain routeValue inputIn inGroup sounding inSpan planAt routeAt partOf sampleIn fill part onPart rowsOfChunk audioOf audioPlans glided movedHeld advanced joined moving movedValue movedGlide chunkTotal chunkOf loadBy activeCount drawRoutes putState putHeld putGlobals putValues putAudio withVelocity withKey withMarks withPhase withBlock withPrimed withGains withProgram withDraw marksCleared marksSwapped noMarks noVoices noNotes freshState emptyOf swapProgram compiled padded targetPlace verdict verdictsFrom verdicts candidates skippedOf inUse countedFeed usedDests feederOf readersOf reads hearsAudio isAudio controls audios planOrder order slewFor inputBy routeBy routeIn planBy plansOf allRoutes secondsOf ratePerSample namesTable anyNames slotNames hold max32 min32 isNan lt le eq add sub mul div ofInt setHeld setVoiceHeld setBase setAmount setOutput setVoiceLimit noteOn noteOff voiceEnded run doneBy noteCurve randomsSet alternates soundedOn ranksOn endedOf newestAfter marksOn marksEnded setNote setValue setGlide legatoTime endedNote arrives glideMoved heldBy drawVoices withVoices withAlternate withLimit putBases lookupOf position cellOf partOfCell reach moved slewStep step scrambled drawBits drawOf rowAt onRow keptAmount keptOutput clampTo finite ne neg toBits toUnsigned audioFrame audioFrames newAudioRow audioSum allPlain fromPart toPart isSounding absOf
+unfolding c36 r36 process judged chunkSteps chunkStep tickOf turns turn newTo newFrom sourceAfter auxAfter putSlews fillFrom tickSum others plains offsets somePlain plain routeValue inputIn inGroup sounding inSpan planAt routeAt partOf sampleIn fill part onPart rowsOfChunk audioOf audioPlans glided movedHeld advanced joined moving movedValue movedGlide chunkTotal chunkOf loadBy activeCount drawRoutes putState putHeld putGlobals putValues putAudio withVelocity withKey withMarks withPhase withBlock withPrimed withGains withProgram withDraw marksCleared marksSwapped noMarks noVoices noNotes freshState emptyOf swapProgram compiled padded targetPlace verdict verdictsFrom verdicts candidates skippedOf inUse countedFeed usedDests feederOf readersOf reads hearsAudio isAudio controls audios planOrder order slewFor inputBy routeBy routeIn planBy plansOf allRoutes secondsOf ratePerSample namesTable anyNames slotNames hold max32 min32 isNan lt le eq add sub mul div ofInt setHeld setVoiceHeld setBase setAmount setOutput setVoiceLimit noteOn noteOff voiceEnded run doneBy noteCurve randomsSet alternates soundedOn ranksOn endedOf newestAfter marksOn marksEnded setNote setValue setGlide legatoTime endedNote arrives glideMoved heldBy drawVoices withVoices withAlternate withLimit putBases lookupOf position cellOf partOfCell reach moved slewStep step scrambled drawBits drawOf rowAt onRow keptAmount keptOutput clampTo finite ne neg toBits toUnsigned audioFrame audioFrames newAudio audioSum allPlain fromPart toPart isSounding absOf
 e36 = refl
 
 -- cases/t23-nan-slew-order.txt
@@ -932,7 +932,7 @@ c37 : List (List Call)
 c37 = ((swap 1) ∷ (held-set 0 (fin false 1 (pos 0))) ∷ (block ([]) (record { part = [] }) 0 32) ∷ []) ∷ []
 
 e37 : reports c37 r37 ≡ (0 ∷ 0 ∷ []) ∷ []
-unfolding c37 r37 process judged chunkSteps chunkStep tickOf turns turn newRow newFrom newSlews slewsTo fillFrom tickSum others plains offsets somePlain plain routeValue inputIn inGroup sounding inSpan planAt routeAt partOf sampleIn fill part onPart rowsOfChunk audioOf audioPlans glided movedHeld advanced joined moving movedValue movedGlide chunkTotal chunkOf loadBy activeCount drawRoutes putState putHeld putGlobals putValues putAudio withVelocity withKey withMarks withPhase withBlock withPrimed withGains withProgram withDraw marksCleared marksSwapped noMarks noVoices noNotes freshState emptyOf swapProgram compiled padded targetPlace verdict verdictsFrom verdicts candidates skippedOf inUse countedFeed usedDests feederOf readersOf reads hearsAudio isAudio controls audios planOrder order slewFor inputBy routeBy routeIn planBy plansOf allRoutes secondsOf ratePerSample namesTable anyNames slotNames hold max32 min32 isNan lt le eq add sub mul div ofInt setHeld setVoiceHeld setBase setAmount setOutput setVoiceLimit noteOn noteOff voiceEnded run doneBy noteCurve randomsSet alternates soundedOn ranksOn endedOf newestAfter marksOn marksEnded setNote setValue setGlide legatoTime endedNote arrives glideMoved heldBy drawVoices withVoices withAlternate withLimit putBases lookupOf position cellOf partOfCell reach moved slewStep step scrambled drawBits drawOf rowAt onRow keptAmount keptOutput clampTo finite ne neg toBits toUnsigned audioFrame audioFrames newAudioRow audioSum allPlain fromPart toPart isSounding absOf
+unfolding c37 r37 process judged chunkSteps chunkStep tickOf turns turn newTo newFrom sourceAfter auxAfter putSlews fillFrom tickSum others plains offsets somePlain plain routeValue inputIn inGroup sounding inSpan planAt routeAt partOf sampleIn fill part onPart rowsOfChunk audioOf audioPlans glided movedHeld advanced joined moving movedValue movedGlide chunkTotal chunkOf loadBy activeCount drawRoutes putState putHeld putGlobals putValues putAudio withVelocity withKey withMarks withPhase withBlock withPrimed withGains withProgram withDraw marksCleared marksSwapped noMarks noVoices noNotes freshState emptyOf swapProgram compiled padded targetPlace verdict verdictsFrom verdicts candidates skippedOf inUse countedFeed usedDests feederOf readersOf reads hearsAudio isAudio controls audios planOrder order slewFor inputBy routeBy routeIn planBy plansOf allRoutes secondsOf ratePerSample namesTable anyNames slotNames hold max32 min32 isNan lt le eq add sub mul div ofInt setHeld setVoiceHeld setBase setAmount setOutput setVoiceLimit noteOn noteOff voiceEnded run doneBy noteCurve randomsSet alternates soundedOn ranksOn endedOf newestAfter marksOn marksEnded setNote setValue setGlide legatoTime endedNote arrives glideMoved heldBy drawVoices withVoices withAlternate withLimit putBases lookupOf position cellOf partOfCell reach moved slewStep step scrambled drawBits drawOf rowAt onRow keptAmount keptOutput clampTo finite ne neg toBits toUnsigned audioFrame audioFrames newAudio audioSum allPlain fromPart toPart isSounding absOf
 e37 = refl
 
 -- cases/t24-routeless-glide.txt
@@ -957,7 +957,7 @@ c38 : List (List Call)
 c38 = ((swap 1) ∷ (note-on 0 (record { key = (fin false 0 (pos 0)); velocity = (fin false 0 (pos 0)); legato = false; glide-seconds = (fin false 0 (pos 0)) })) ∷ (block ([]) (record { part = [] }) 0 1) ∷ []) ∷ ((note-on 0 (record { key = (fin false 127 (pos 0)); velocity = (fin false 1 (pos 0)); legato = true; glide-seconds = (fin false 11184811 (negsuc 23)) })) ∷ (block ([]) (record { part = [] }) 0 4001) ∷ []) ∷ ((swap 2) ∷ (block ([]) (record { part = [] }) 0 1) ∷ []) ∷ []
 
 e38 : reports c38 r38 ≡ ([]) ∷ ([]) ∷ (1066308333 ∷ 0 ∷ 0 ∷ 0 ∷ 0 ∷ 0 ∷ 0 ∷ 0 ∷ 0 ∷ 0 ∷ 0 ∷ 0 ∷ 0 ∷ 0 ∷ 0 ∷ 0 ∷ 1066308333 ∷ 0 ∷ 0 ∷ 0 ∷ 0 ∷ 0 ∷ 0 ∷ 0 ∷ 0 ∷ 0 ∷ 0 ∷ 0 ∷ 0 ∷ 0 ∷ 0 ∷ 0 ∷ []) ∷ []
-unfolding c38 r38 process judged chunkSteps chunkStep tickOf turns turn newRow newFrom newSlews slewsTo fillFrom tickSum others plains offsets somePlain plain routeValue inputIn inGroup sounding inSpan planAt routeAt partOf sampleIn fill part onPart rowsOfChunk audioOf audioPlans glided movedHeld advanced joined moving movedValue movedGlide chunkTotal chunkOf loadBy activeCount drawRoutes putState putHeld putGlobals putValues putAudio withVelocity withKey withMarks withPhase withBlock withPrimed withGains withProgram withDraw marksCleared marksSwapped noMarks noVoices noNotes freshState emptyOf swapProgram compiled padded targetPlace verdict verdictsFrom verdicts candidates skippedOf inUse countedFeed usedDests feederOf readersOf reads hearsAudio isAudio controls audios planOrder order slewFor inputBy routeBy routeIn planBy plansOf allRoutes secondsOf ratePerSample namesTable anyNames slotNames hold max32 min32 isNan lt le eq add sub mul div ofInt setHeld setVoiceHeld setBase setAmount setOutput setVoiceLimit noteOn noteOff voiceEnded run doneBy noteCurve randomsSet alternates soundedOn ranksOn endedOf newestAfter marksOn marksEnded setNote setValue setGlide legatoTime endedNote arrives glideMoved heldBy drawVoices withVoices withAlternate withLimit putBases lookupOf position cellOf partOfCell reach moved slewStep step scrambled drawBits drawOf rowAt onRow keptAmount keptOutput clampTo finite ne neg toBits toUnsigned audioFrame audioFrames newAudioRow audioSum allPlain fromPart toPart isSounding absOf
+unfolding c38 r38 process judged chunkSteps chunkStep tickOf turns turn newTo newFrom sourceAfter auxAfter putSlews fillFrom tickSum others plains offsets somePlain plain routeValue inputIn inGroup sounding inSpan planAt routeAt partOf sampleIn fill part onPart rowsOfChunk audioOf audioPlans glided movedHeld advanced joined moving movedValue movedGlide chunkTotal chunkOf loadBy activeCount drawRoutes putState putHeld putGlobals putValues putAudio withVelocity withKey withMarks withPhase withBlock withPrimed withGains withProgram withDraw marksCleared marksSwapped noMarks noVoices noNotes freshState emptyOf swapProgram compiled padded targetPlace verdict verdictsFrom verdicts candidates skippedOf inUse countedFeed usedDests feederOf readersOf reads hearsAudio isAudio controls audios planOrder order slewFor inputBy routeBy routeIn planBy plansOf allRoutes secondsOf ratePerSample namesTable anyNames slotNames hold max32 min32 isNan lt le eq add sub mul div ofInt setHeld setVoiceHeld setBase setAmount setOutput setVoiceLimit noteOn noteOff voiceEnded run doneBy noteCurve randomsSet alternates soundedOn ranksOn endedOf newestAfter marksOn marksEnded setNote setValue setGlide legatoTime endedNote arrives glideMoved heldBy drawVoices withVoices withAlternate withLimit putBases lookupOf position cellOf partOfCell reach moved slewStep step scrambled drawBits drawOf rowAt onRow keptAmount keptOutput clampTo finite ne neg toBits toUnsigned audioFrame audioFrames newAudio audioSum allPlain fromPart toPart isSounding absOf
 e38 = refl
 
 -- cases/t25-engine-global-program-voice.txt
@@ -978,7 +978,7 @@ c39 : List (List Call)
 c39 = ((swap 1) ∷ (held-set 0 (fin false 3 (negsuc 1))) ∷ (voice-held-set 0 0 (fin false 1 (negsuc 1))) ∷ (note-on 0 (record { key = (fin false 15 (pos 2)); velocity = (fin false 1 (pos 0)); legato = false; glide-seconds = (fin false 0 (pos 0)) })) ∷ (block ([]) (record { part = [] }) 0 32) ∷ []) ∷ []
 
 e39 : reports c39 r39 ≡ (1048576000 ∷ 0 ∷ 0 ∷ 0 ∷ 0 ∷ 0 ∷ 0 ∷ 0 ∷ 0 ∷ 0 ∷ 0 ∷ 0 ∷ 0 ∷ 0 ∷ 0 ∷ 0 ∷ 1048576000 ∷ 0 ∷ 0 ∷ 0 ∷ 0 ∷ 0 ∷ 0 ∷ 0 ∷ 0 ∷ 0 ∷ 0 ∷ 0 ∷ 0 ∷ 0 ∷ 0 ∷ 0 ∷ []) ∷ []
-unfolding c39 r39 process judged chunkSteps chunkStep tickOf turns turn newRow newFrom newSlews slewsTo fillFrom tickSum others plains offsets somePlain plain routeValue inputIn inGroup sounding inSpan planAt routeAt partOf sampleIn fill part onPart rowsOfChunk audioOf audioPlans glided movedHeld advanced joined moving movedValue movedGlide chunkTotal chunkOf loadBy activeCount drawRoutes putState putHeld putGlobals putValues putAudio withVelocity withKey withMarks withPhase withBlock withPrimed withGains withProgram withDraw marksCleared marksSwapped noMarks noVoices noNotes freshState emptyOf swapProgram compiled padded targetPlace verdict verdictsFrom verdicts candidates skippedOf inUse countedFeed usedDests feederOf readersOf reads hearsAudio isAudio controls audios planOrder order slewFor inputBy routeBy routeIn planBy plansOf allRoutes secondsOf ratePerSample namesTable anyNames slotNames hold max32 min32 isNan lt le eq add sub mul div ofInt setHeld setVoiceHeld setBase setAmount setOutput setVoiceLimit noteOn noteOff voiceEnded run doneBy noteCurve randomsSet alternates soundedOn ranksOn endedOf newestAfter marksOn marksEnded setNote setValue setGlide legatoTime endedNote arrives glideMoved heldBy drawVoices withVoices withAlternate withLimit putBases lookupOf position cellOf partOfCell reach moved slewStep step scrambled drawBits drawOf rowAt onRow keptAmount keptOutput clampTo finite ne neg toBits toUnsigned audioFrame audioFrames newAudioRow audioSum allPlain fromPart toPart isSounding absOf
+unfolding c39 r39 process judged chunkSteps chunkStep tickOf turns turn newTo newFrom sourceAfter auxAfter putSlews fillFrom tickSum others plains offsets somePlain plain routeValue inputIn inGroup sounding inSpan planAt routeAt partOf sampleIn fill part onPart rowsOfChunk audioOf audioPlans glided movedHeld advanced joined moving movedValue movedGlide chunkTotal chunkOf loadBy activeCount drawRoutes putState putHeld putGlobals putValues putAudio withVelocity withKey withMarks withPhase withBlock withPrimed withGains withProgram withDraw marksCleared marksSwapped noMarks noVoices noNotes freshState emptyOf swapProgram compiled padded targetPlace verdict verdictsFrom verdicts candidates skippedOf inUse countedFeed usedDests feederOf readersOf reads hearsAudio isAudio controls audios planOrder order slewFor inputBy routeBy routeIn planBy plansOf allRoutes secondsOf ratePerSample namesTable anyNames slotNames hold max32 min32 isNan lt le eq add sub mul div ofInt setHeld setVoiceHeld setBase setAmount setOutput setVoiceLimit noteOn noteOff voiceEnded run doneBy noteCurve randomsSet alternates soundedOn ranksOn endedOf newestAfter marksOn marksEnded setNote setValue setGlide legatoTime endedNote arrives glideMoved heldBy drawVoices withVoices withAlternate withLimit putBases lookupOf position cellOf partOfCell reach moved slewStep step scrambled drawBits drawOf rowAt onRow keptAmount keptOutput clampTo finite ne neg toBits toUnsigned audioFrame audioFrames newAudio audioSum allPlain fromPart toPart isSounding absOf
 e39 = refl
 
 -- cases/t26-routeless-glide-in-blocks.txt
@@ -1003,7 +1003,7 @@ c40 : List (List Call)
 c40 = ((swap 1) ∷ (note-on 0 (record { key = (fin false 0 (pos 0)); velocity = (fin false 0 (pos 0)); legato = false; glide-seconds = (fin false 0 (pos 0)) })) ∷ (block ([]) (record { part = [] }) 0 1) ∷ []) ∷ ((note-on 0 (record { key = (fin false 127 (pos 0)); velocity = (fin false 1 (pos 0)); legato = true; glide-seconds = (fin false 11184811 (negsuc 23)) })) ∷ (block ([]) (record { part = [] }) 0 31) ∷ []) ∷ ((block ([]) (record { part = [] }) 0 32) ∷ []) ∷ ((block ([]) (record { part = [] }) 0 32) ∷ []) ∷ ((block ([]) (record { part = [] }) 0 32) ∷ []) ∷ ((block ([]) (record { part = [] }) 0 32) ∷ []) ∷ ((block ([]) (record { part = [] }) 0 32) ∷ []) ∷ ((block ([]) (record { part = [] }) 0 32) ∷ []) ∷ ((block ([]) (record { part = [] }) 0 32) ∷ []) ∷ ((block ([]) (record { part = [] }) 0 32) ∷ []) ∷ ((block ([]) (record { part = [] }) 0 32) ∷ []) ∷ ((block ([]) (record { part = [] }) 0 32) ∷ []) ∷ ((block ([]) (record { part = [] }) 0 32) ∷ []) ∷ ((block ([]) (record { part = [] }) 0 32) ∷ []) ∷ ((block ([]) (record { part = [] }) 0 32) ∷ []) ∷ ((block ([]) (record { part = [] }) 0 32) ∷ []) ∷ ((block ([]) (record { part = [] }) 0 32) ∷ []) ∷ ((block ([]) (record { part = [] }) 0 32) ∷ []) ∷ ((block ([]) (record { part = [] }) 0 32) ∷ []) ∷ ((block ([]) (record { part = [] }) 0 32) ∷ []) ∷ ((block ([]) (record { part = [] }) 0 32) ∷ []) ∷ ((block ([]) (record { part = [] }) 0 32) ∷ []) ∷ ((block ([]) (record { part = [] }) 0 32) ∷ []) ∷ ((block ([]) (record { part = [] }) 0 32) ∷ []) ∷ ((block ([]) (record { part = [] }) 0 32) ∷ []) ∷ ((block ([]) (record { part = [] }) 0 32) ∷ []) ∷ ((block ([]) (record { part = [] }) 0 32) ∷ []) ∷ ((block ([]) (record { part = [] }) 0 32) ∷ []) ∷ ((block ([]) (record { part = [] }) 0 32) ∷ []) ∷ ((block ([]) (record { part = [] }) 0 32) ∷ []) ∷ ((block ([]) (record { part = [] }) 0 32) ∷ []) ∷ ((block ([]) (record { part = [] }) 0 32) ∷ []) ∷ ((block ([]) (record { part = [] }) 0 32) ∷ []) ∷ ((block ([]) (record { part = [] }) 0 32) ∷ []) ∷ ((block ([]) (record { part = [] }) 0 32) ∷ []) ∷ ((block ([]) (record { part = [] }) 0 32) ∷ []) ∷ ((block ([]) (record { part = [] }) 0 32) ∷ []) ∷ ((block ([]) (record { part = [] }) 0 32) ∷ []) ∷ ((block ([]) (record { part = [] }) 0 32) ∷ []) ∷ ((block ([]) (record { part = [] }) 0 32) ∷ []) ∷ ((block ([]) (record { part = [] }) 0 32) ∷ []) ∷ ((block ([]) (record { part = [] }) 0 32) ∷ []) ∷ ((block ([]) (record { part = [] }) 0 32) ∷ []) ∷ ((block ([]) (record { part = [] }) 0 32) ∷ []) ∷ ((block ([]) (record { part = [] }) 0 32) ∷ []) ∷ ((block ([]) (record { part = [] }) 0 32) ∷ []) ∷ ((block ([]) (record { part = [] }) 0 32) ∷ []) ∷ ((block ([]) (record { part = [] }) 0 32) ∷ []) ∷ ((block ([]) (record { part = [] }) 0 32) ∷ []) ∷ ((block ([]) (record { part = [] }) 0 32) ∷ []) ∷ ((block ([]) (record { part = [] }) 0 32) ∷ []) ∷ ((block ([]) (record { part = [] }) 0 32) ∷ []) ∷ ((block ([]) (record { part = [] }) 0 32) ∷ []) ∷ ((block ([]) (record { part = [] }) 0 32) ∷ []) ∷ ((block ([]) (record { part = [] }) 0 32) ∷ []) ∷ ((block ([]) (record { part = [] }) 0 32) ∷ []) ∷ ((block ([]) (record { part = [] }) 0 32) ∷ []) ∷ ((block ([]) (record { part = [] }) 0 32) ∷ []) ∷ ((block ([]) (record { part = [] }) 0 32) ∷ []) ∷ ((block ([]) (record { part = [] }) 0 32) ∷ []) ∷ ((block ([]) (record { part = [] }) 0 32) ∷ []) ∷ ((block ([]) (record { part = [] }) 0 32) ∷ []) ∷ ((block ([]) (record { part = [] }) 0 32) ∷ []) ∷ ((block ([]) (record { part = [] }) 0 32) ∷ []) ∷ ((block ([]) (record { part = [] }) 0 32) ∷ []) ∷ ((block ([]) (record { part = [] }) 0 32) ∷ []) ∷ ((block ([]) (record { part = [] }) 0 32) ∷ []) ∷ ((block ([]) (record { part = [] }) 0 32) ∷ []) ∷ ((block ([]) (record { part = [] }) 0 32) ∷ []) ∷ ((block ([]) (record { part = [] }) 0 32) ∷ []) ∷ ((block ([]) (record { part = [] }) 0 32) ∷ []) ∷ ((block ([]) (record { part = [] }) 0 32) ∷ []) ∷ ((block ([]) (record { part = [] }) 0 32) ∷ []) ∷ ((block ([]) (record { part = [] }) 0 32) ∷ []) ∷ ((block ([]) (record { part = [] }) 0 32) ∷ []) ∷ ((block ([]) (record { part = [] }) 0 32) ∷ []) ∷ ((block ([]) (record { part = [] }) 0 32) ∷ []) ∷ ((block ([]) (record { part = [] }) 0 32) ∷ []) ∷ ((block ([]) (record { part = [] }) 0 32) ∷ []) ∷ ((block ([]) (record { part = [] }) 0 32) ∷ []) ∷ ((block ([]) (record { part = [] }) 0 32) ∷ []) ∷ ((block ([]) (record { part = [] }) 0 32) ∷ []) ∷ ((block ([]) (record { part = [] }) 0 32) ∷ []) ∷ ((block ([]) (record { part = [] }) 0 32) ∷ []) ∷ ((block ([]) (record { part = [] }) 0 32) ∷ []) ∷ ((block ([]) (record { part = [] }) 0 32) ∷ []) ∷ ((block ([]) (record { part = [] }) 0 32) ∷ []) ∷ ((block ([]) (record { part = [] }) 0 32) ∷ []) ∷ ((block ([]) (record { part = [] }) 0 32) ∷ []) ∷ ((block ([]) (record { part = [] }) 0 32) ∷ []) ∷ ((block ([]) (record { part = [] }) 0 32) ∷ []) ∷ ((block ([]) (record { part = [] }) 0 32) ∷ []) ∷ ((block ([]) (record { part = [] }) 0 32) ∷ []) ∷ ((block ([]) (record { part = [] }) 0 32) ∷ []) ∷ ((block ([]) (record { part = [] }) 0 32) ∷ []) ∷ ((block ([]) (record { part = [] }) 0 32) ∷ []) ∷ ((block ([]) (record { part = [] }) 0 32) ∷ []) ∷ ((block ([]) (record { part = [] }) 0 32) ∷ []) ∷ ((block ([]) (record { part = [] }) 0 32) ∷ []) ∷ ((block ([]) (record { part = [] }) 0 32) ∷ []) ∷ ((block ([]) (record { part = [] }) 0 32) ∷ []) ∷ ((block ([]) (record { part = [] }) 0 32) ∷ []) ∷ ((block ([]) (record { part = [] }) 0 32) ∷ []) ∷ ((block ([]) (record { part = [] }) 0 32) ∷ []) ∷ ((block ([]) (record { part = [] }) 0 32) ∷ []) ∷ ((block ([]) (record { part = [] }) 0 32) ∷ []) ∷ ((block ([]) (record { part = [] }) 0 32) ∷ []) ∷ ((block ([]) (record { part = [] }) 0 32) ∷ []) ∷ ((block ([]) (record { part = [] }) 0 32) ∷ []) ∷ ((block ([]) (record { part = [] }) 0 32) ∷ []) ∷ ((block ([]) (record { part = [] }) 0 32) ∷ []) ∷ ((block ([]) (record { part = [] }) 0 32) ∷ []) ∷ ((block ([]) (record { part = [] }) 0 32) ∷ []) ∷ ((block ([]) (record { part = [] }) 0 32) ∷ []) ∷ ((block ([]) (record { part = [] }) 0 32) ∷ []) ∷ ((block ([]) (record { part = [] }) 0 32) ∷ []) ∷ ((block ([]) (record { part = [] }) 0 32) ∷ []) ∷ ((block ([]) (record { part = [] }) 0 32) ∷ []) ∷ ((block ([]) (record { part = [] }) 0 32) ∷ []) ∷ ((block ([]) (record { part = [] }) 0 32) ∷ []) ∷ ((block ([]) (record { part = [] }) 0 32) ∷ []) ∷ ((block ([]) (record { part = [] }) 0 32) ∷ []) ∷ ((block ([]) (record { part = [] }) 0 32) ∷ []) ∷ ((block ([]) (record { part = [] }) 0 32) ∷ []) ∷ ((block ([]) (record { part = [] }) 0 32) ∷ []) ∷ ((block ([]) (record { part = [] }) 0 32) ∷ []) ∷ ((block ([]) (record { part = [] }) 0 2) ∷ []) ∷ ((swap 2) ∷ (block ([]) (record { part = [] }) 0 1) ∷ []) ∷ []
 
 e40 : reports c40 r40 ≡ ([]) ∷ ([]) ∷ ([]) ∷ ([]) ∷ ([]) ∷ ([]) ∷ ([]) ∷ ([]) ∷ ([]) ∷ ([]) ∷ ([]) ∷ ([]) ∷ ([]) ∷ ([]) ∷ ([]) ∷ ([]) ∷ ([]) ∷ ([]) ∷ ([]) ∷ ([]) ∷ ([]) ∷ ([]) ∷ ([]) ∷ ([]) ∷ ([]) ∷ ([]) ∷ ([]) ∷ ([]) ∷ ([]) ∷ ([]) ∷ ([]) ∷ ([]) ∷ ([]) ∷ ([]) ∷ ([]) ∷ ([]) ∷ ([]) ∷ ([]) ∷ ([]) ∷ ([]) ∷ ([]) ∷ ([]) ∷ ([]) ∷ ([]) ∷ ([]) ∷ ([]) ∷ ([]) ∷ ([]) ∷ ([]) ∷ ([]) ∷ ([]) ∷ ([]) ∷ ([]) ∷ ([]) ∷ ([]) ∷ ([]) ∷ ([]) ∷ ([]) ∷ ([]) ∷ ([]) ∷ ([]) ∷ ([]) ∷ ([]) ∷ ([]) ∷ ([]) ∷ ([]) ∷ ([]) ∷ ([]) ∷ ([]) ∷ ([]) ∷ ([]) ∷ ([]) ∷ ([]) ∷ ([]) ∷ ([]) ∷ ([]) ∷ ([]) ∷ ([]) ∷ ([]) ∷ ([]) ∷ ([]) ∷ ([]) ∷ ([]) ∷ ([]) ∷ ([]) ∷ ([]) ∷ ([]) ∷ ([]) ∷ ([]) ∷ ([]) ∷ ([]) ∷ ([]) ∷ ([]) ∷ ([]) ∷ ([]) ∷ ([]) ∷ ([]) ∷ ([]) ∷ ([]) ∷ ([]) ∷ ([]) ∷ ([]) ∷ ([]) ∷ ([]) ∷ ([]) ∷ ([]) ∷ ([]) ∷ ([]) ∷ ([]) ∷ ([]) ∷ ([]) ∷ ([]) ∷ ([]) ∷ ([]) ∷ ([]) ∷ ([]) ∷ ([]) ∷ ([]) ∷ ([]) ∷ ([]) ∷ ([]) ∷ ([]) ∷ ([]) ∷ ([]) ∷ ([]) ∷ ([]) ∷ ([]) ∷ (1066308341 ∷ 0 ∷ 0 ∷ 0 ∷ 0 ∷ 0 ∷ 0 ∷ 0 ∷ 0 ∷ 0 ∷ 0 ∷ 0 ∷ 0 ∷ 0 ∷ 0 ∷ 0 ∷ 1066308341 ∷ 0 ∷ 0 ∷ 0 ∷ 0 ∷ 0 ∷ 0 ∷ 0 ∷ 0 ∷ 0 ∷ 0 ∷ 0 ∷ 0 ∷ 0 ∷ 0 ∷ 0 ∷ []) ∷ []
-unfolding c40 r40 process judged chunkSteps chunkStep tickOf turns turn newRow newFrom newSlews slewsTo fillFrom tickSum others plains offsets somePlain plain routeValue inputIn inGroup sounding inSpan planAt routeAt partOf sampleIn fill part onPart rowsOfChunk audioOf audioPlans glided movedHeld advanced joined moving movedValue movedGlide chunkTotal chunkOf loadBy activeCount drawRoutes putState putHeld putGlobals putValues putAudio withVelocity withKey withMarks withPhase withBlock withPrimed withGains withProgram withDraw marksCleared marksSwapped noMarks noVoices noNotes freshState emptyOf swapProgram compiled padded targetPlace verdict verdictsFrom verdicts candidates skippedOf inUse countedFeed usedDests feederOf readersOf reads hearsAudio isAudio controls audios planOrder order slewFor inputBy routeBy routeIn planBy plansOf allRoutes secondsOf ratePerSample namesTable anyNames slotNames hold max32 min32 isNan lt le eq add sub mul div ofInt setHeld setVoiceHeld setBase setAmount setOutput setVoiceLimit noteOn noteOff voiceEnded run doneBy noteCurve randomsSet alternates soundedOn ranksOn endedOf newestAfter marksOn marksEnded setNote setValue setGlide legatoTime endedNote arrives glideMoved heldBy drawVoices withVoices withAlternate withLimit putBases lookupOf position cellOf partOfCell reach moved slewStep step scrambled drawBits drawOf rowAt onRow keptAmount keptOutput clampTo finite ne neg toBits toUnsigned audioFrame audioFrames newAudioRow audioSum allPlain fromPart toPart isSounding absOf
+unfolding c40 r40 process judged chunkSteps chunkStep tickOf turns turn newTo newFrom sourceAfter auxAfter putSlews fillFrom tickSum others plains offsets somePlain plain routeValue inputIn inGroup sounding inSpan planAt routeAt partOf sampleIn fill part onPart rowsOfChunk audioOf audioPlans glided movedHeld advanced joined moving movedValue movedGlide chunkTotal chunkOf loadBy activeCount drawRoutes putState putHeld putGlobals putValues putAudio withVelocity withKey withMarks withPhase withBlock withPrimed withGains withProgram withDraw marksCleared marksSwapped noMarks noVoices noNotes freshState emptyOf swapProgram compiled padded targetPlace verdict verdictsFrom verdicts candidates skippedOf inUse countedFeed usedDests feederOf readersOf reads hearsAudio isAudio controls audios planOrder order slewFor inputBy routeBy routeIn planBy plansOf allRoutes secondsOf ratePerSample namesTable anyNames slotNames hold max32 min32 isNan lt le eq add sub mul div ofInt setHeld setVoiceHeld setBase setAmount setOutput setVoiceLimit noteOn noteOff voiceEnded run doneBy noteCurve randomsSet alternates soundedOn ranksOn endedOf newestAfter marksOn marksEnded setNote setValue setGlide legatoTime endedNote arrives glideMoved heldBy drawVoices withVoices withAlternate withLimit putBases lookupOf position cellOf partOfCell reach moved slewStep step scrambled drawBits drawOf rowAt onRow keptAmount keptOutput clampTo finite ne neg toBits toUnsigned audioFrame audioFrames newAudio audioSum allPlain fromPart toPart isSounding absOf
 e40 = refl
 
 -- cases/t28-plain-offsets-summed-first.txt
@@ -1024,7 +1024,7 @@ c41 : List (List Call)
 c41 = ((swap 1) ∷ (base-set 0 (fin false 1 (pos 0))) ∷ (note-on 0 (record { key = (fin false 15 (pos 2)); velocity = (fin false 1 (pos 0)); legato = false; glide-seconds = (fin false 0 (pos 0)) })) ∷ (block ([]) (record { part = [] }) 0 32) ∷ []) ∷ []
 
 e41 : reports c41 r41 ≡ (1065353217 ∷ 1065353217 ∷ 1065353217 ∷ 1065353217 ∷ 1065353217 ∷ 1065353217 ∷ 1065353217 ∷ 1065353217 ∷ 1065353217 ∷ 1065353217 ∷ 1065353217 ∷ 1065353217 ∷ 1065353217 ∷ 1065353217 ∷ 1065353217 ∷ 1065353217 ∷ 1065353217 ∷ 1065353217 ∷ 1065353217 ∷ 1065353217 ∷ 1065353217 ∷ 1065353217 ∷ 1065353217 ∷ 1065353217 ∷ 1065353217 ∷ 1065353217 ∷ 1065353217 ∷ 1065353217 ∷ 1065353217 ∷ 1065353217 ∷ 1065353217 ∷ 1065353217 ∷ []) ∷ []
-unfolding c41 r41 process judged chunkSteps chunkStep tickOf turns turn newRow newFrom newSlews slewsTo fillFrom tickSum others plains offsets somePlain plain routeValue inputIn inGroup sounding inSpan planAt routeAt partOf sampleIn fill part onPart rowsOfChunk audioOf audioPlans glided movedHeld advanced joined moving movedValue movedGlide chunkTotal chunkOf loadBy activeCount drawRoutes putState putHeld putGlobals putValues putAudio withVelocity withKey withMarks withPhase withBlock withPrimed withGains withProgram withDraw marksCleared marksSwapped noMarks noVoices noNotes freshState emptyOf swapProgram compiled padded targetPlace verdict verdictsFrom verdicts candidates skippedOf inUse countedFeed usedDests feederOf readersOf reads hearsAudio isAudio controls audios planOrder order slewFor inputBy routeBy routeIn planBy plansOf allRoutes secondsOf ratePerSample namesTable anyNames slotNames hold max32 min32 isNan lt le eq add sub mul div ofInt setHeld setVoiceHeld setBase setAmount setOutput setVoiceLimit noteOn noteOff voiceEnded run doneBy noteCurve randomsSet alternates soundedOn ranksOn endedOf newestAfter marksOn marksEnded setNote setValue setGlide legatoTime endedNote arrives glideMoved heldBy drawVoices withVoices withAlternate withLimit putBases lookupOf position cellOf partOfCell reach moved slewStep step scrambled drawBits drawOf rowAt onRow keptAmount keptOutput clampTo finite ne neg toBits toUnsigned audioFrame audioFrames newAudioRow audioSum allPlain fromPart toPart isSounding absOf
+unfolding c41 r41 process judged chunkSteps chunkStep tickOf turns turn newTo newFrom sourceAfter auxAfter putSlews fillFrom tickSum others plains offsets somePlain plain routeValue inputIn inGroup sounding inSpan planAt routeAt partOf sampleIn fill part onPart rowsOfChunk audioOf audioPlans glided movedHeld advanced joined moving movedValue movedGlide chunkTotal chunkOf loadBy activeCount drawRoutes putState putHeld putGlobals putValues putAudio withVelocity withKey withMarks withPhase withBlock withPrimed withGains withProgram withDraw marksCleared marksSwapped noMarks noVoices noNotes freshState emptyOf swapProgram compiled padded targetPlace verdict verdictsFrom verdicts candidates skippedOf inUse countedFeed usedDests feederOf readersOf reads hearsAudio isAudio controls audios planOrder order slewFor inputBy routeBy routeIn planBy plansOf allRoutes secondsOf ratePerSample namesTable anyNames slotNames hold max32 min32 isNan lt le eq add sub mul div ofInt setHeld setVoiceHeld setBase setAmount setOutput setVoiceLimit noteOn noteOff voiceEnded run doneBy noteCurve randomsSet alternates soundedOn ranksOn endedOf newestAfter marksOn marksEnded setNote setValue setGlide legatoTime endedNote arrives glideMoved heldBy drawVoices withVoices withAlternate withLimit putBases lookupOf position cellOf partOfCell reach moved slewStep step scrambled drawBits drawOf rowAt onRow keptAmount keptOutput clampTo finite ne neg toBits toUnsigned audioFrame audioFrames newAudio audioSum allPlain fromPart toPart isSounding absOf
 e41 = refl
 
 -- cases/t29-scaled-gain-underflow.txt
@@ -1045,7 +1045,7 @@ c42 : List (List Call)
 c42 = ((swap 1) ∷ (held-set 0 (fin false 1 (pos 1))) ∷ (note-on 0 (record { key = (fin false 15 (pos 2)); velocity = (fin false 1 (pos 0)); legato = false; glide-seconds = (fin false 0 (pos 0)) })) ∷ (block ([]) (record { part = [] }) 0 32) ∷ []) ∷ []
 
 e42 : reports c42 r42 ≡ (6 ∷ 6 ∷ 6 ∷ 6 ∷ 6 ∷ 6 ∷ 6 ∷ 6 ∷ 6 ∷ 6 ∷ 6 ∷ 6 ∷ 6 ∷ 6 ∷ 6 ∷ 6 ∷ 6 ∷ 6 ∷ 6 ∷ 6 ∷ 6 ∷ 6 ∷ 6 ∷ 6 ∷ 6 ∷ 6 ∷ 6 ∷ 6 ∷ 6 ∷ 6 ∷ 6 ∷ 6 ∷ []) ∷ []
-unfolding c42 r42 process judged chunkSteps chunkStep tickOf turns turn newRow newFrom newSlews slewsTo fillFrom tickSum others plains offsets somePlain plain routeValue inputIn inGroup sounding inSpan planAt routeAt partOf sampleIn fill part onPart rowsOfChunk audioOf audioPlans glided movedHeld advanced joined moving movedValue movedGlide chunkTotal chunkOf loadBy activeCount drawRoutes putState putHeld putGlobals putValues putAudio withVelocity withKey withMarks withPhase withBlock withPrimed withGains withProgram withDraw marksCleared marksSwapped noMarks noVoices noNotes freshState emptyOf swapProgram compiled padded targetPlace verdict verdictsFrom verdicts candidates skippedOf inUse countedFeed usedDests feederOf readersOf reads hearsAudio isAudio controls audios planOrder order slewFor inputBy routeBy routeIn planBy plansOf allRoutes secondsOf ratePerSample namesTable anyNames slotNames hold max32 min32 isNan lt le eq add sub mul div ofInt setHeld setVoiceHeld setBase setAmount setOutput setVoiceLimit noteOn noteOff voiceEnded run doneBy noteCurve randomsSet alternates soundedOn ranksOn endedOf newestAfter marksOn marksEnded setNote setValue setGlide legatoTime endedNote arrives glideMoved heldBy drawVoices withVoices withAlternate withLimit putBases lookupOf position cellOf partOfCell reach moved slewStep step scrambled drawBits drawOf rowAt onRow keptAmount keptOutput clampTo finite ne neg toBits toUnsigned audioFrame audioFrames newAudioRow audioSum allPlain fromPart toPart isSounding absOf
+unfolding c42 r42 process judged chunkSteps chunkStep tickOf turns turn newTo newFrom sourceAfter auxAfter putSlews fillFrom tickSum others plains offsets somePlain plain routeValue inputIn inGroup sounding inSpan planAt routeAt partOf sampleIn fill part onPart rowsOfChunk audioOf audioPlans glided movedHeld advanced joined moving movedValue movedGlide chunkTotal chunkOf loadBy activeCount drawRoutes putState putHeld putGlobals putValues putAudio withVelocity withKey withMarks withPhase withBlock withPrimed withGains withProgram withDraw marksCleared marksSwapped noMarks noVoices noNotes freshState emptyOf swapProgram compiled padded targetPlace verdict verdictsFrom verdicts candidates skippedOf inUse countedFeed usedDests feederOf readersOf reads hearsAudio isAudio controls audios planOrder order slewFor inputBy routeBy routeIn planBy plansOf allRoutes secondsOf ratePerSample namesTable anyNames slotNames hold max32 min32 isNan lt le eq add sub mul div ofInt setHeld setVoiceHeld setBase setAmount setOutput setVoiceLimit noteOn noteOff voiceEnded run doneBy noteCurve randomsSet alternates soundedOn ranksOn endedOf newestAfter marksOn marksEnded setNote setValue setGlide legatoTime endedNote arrives glideMoved heldBy drawVoices withVoices withAlternate withLimit putBases lookupOf position cellOf partOfCell reach moved slewStep step scrambled drawBits drawOf rowAt onRow keptAmount keptOutput clampTo finite ne neg toBits toUnsigned audioFrame audioFrames newAudio audioSum allPlain fromPart toPart isSounding absOf
 e42 = refl
 
 -- cases/t30-scaled-gain-overflow.txt
@@ -1066,5 +1066,5 @@ c43 : List (List Call)
 c43 = ((swap 1) ∷ (held-set 0 (fin false 1 (negsuc 1))) ∷ (note-on 0 (record { key = (fin false 15 (pos 2)); velocity = (fin false 1 (pos 0)); legato = false; glide-seconds = (fin false 0 (pos 0)) })) ∷ (block ([]) (record { part = [] }) 0 32) ∷ []) ∷ []
 
 e43 : reports c43 r43 ≡ (2139095040 ∷ 2139095040 ∷ 2139095040 ∷ 2139095040 ∷ 2139095040 ∷ 2139095040 ∷ 2139095040 ∷ 2139095040 ∷ 2139095040 ∷ 2139095040 ∷ 2139095040 ∷ 2139095040 ∷ 2139095040 ∷ 2139095040 ∷ 2139095040 ∷ 2139095040 ∷ 2139095040 ∷ 2139095040 ∷ 2139095040 ∷ 2139095040 ∷ 2139095040 ∷ 2139095040 ∷ 2139095040 ∷ 2139095040 ∷ 2139095040 ∷ 2139095040 ∷ 2139095040 ∷ 2139095040 ∷ 2139095040 ∷ 2139095040 ∷ 2139095040 ∷ 2139095040 ∷ []) ∷ []
-unfolding c43 r43 process judged chunkSteps chunkStep tickOf turns turn newRow newFrom newSlews slewsTo fillFrom tickSum others plains offsets somePlain plain routeValue inputIn inGroup sounding inSpan planAt routeAt partOf sampleIn fill part onPart rowsOfChunk audioOf audioPlans glided movedHeld advanced joined moving movedValue movedGlide chunkTotal chunkOf loadBy activeCount drawRoutes putState putHeld putGlobals putValues putAudio withVelocity withKey withMarks withPhase withBlock withPrimed withGains withProgram withDraw marksCleared marksSwapped noMarks noVoices noNotes freshState emptyOf swapProgram compiled padded targetPlace verdict verdictsFrom verdicts candidates skippedOf inUse countedFeed usedDests feederOf readersOf reads hearsAudio isAudio controls audios planOrder order slewFor inputBy routeBy routeIn planBy plansOf allRoutes secondsOf ratePerSample namesTable anyNames slotNames hold max32 min32 isNan lt le eq add sub mul div ofInt setHeld setVoiceHeld setBase setAmount setOutput setVoiceLimit noteOn noteOff voiceEnded run doneBy noteCurve randomsSet alternates soundedOn ranksOn endedOf newestAfter marksOn marksEnded setNote setValue setGlide legatoTime endedNote arrives glideMoved heldBy drawVoices withVoices withAlternate withLimit putBases lookupOf position cellOf partOfCell reach moved slewStep step scrambled drawBits drawOf rowAt onRow keptAmount keptOutput clampTo finite ne neg toBits toUnsigned audioFrame audioFrames newAudioRow audioSum allPlain fromPart toPart isSounding absOf
+unfolding c43 r43 process judged chunkSteps chunkStep tickOf turns turn newTo newFrom sourceAfter auxAfter putSlews fillFrom tickSum others plains offsets somePlain plain routeValue inputIn inGroup sounding inSpan planAt routeAt partOf sampleIn fill part onPart rowsOfChunk audioOf audioPlans glided movedHeld advanced joined moving movedValue movedGlide chunkTotal chunkOf loadBy activeCount drawRoutes putState putHeld putGlobals putValues putAudio withVelocity withKey withMarks withPhase withBlock withPrimed withGains withProgram withDraw marksCleared marksSwapped noMarks noVoices noNotes freshState emptyOf swapProgram compiled padded targetPlace verdict verdictsFrom verdicts candidates skippedOf inUse countedFeed usedDests feederOf readersOf reads hearsAudio isAudio controls audios planOrder order slewFor inputBy routeBy routeIn planBy plansOf allRoutes secondsOf ratePerSample namesTable anyNames slotNames hold max32 min32 isNan lt le eq add sub mul div ofInt setHeld setVoiceHeld setBase setAmount setOutput setVoiceLimit noteOn noteOff voiceEnded run doneBy noteCurve randomsSet alternates soundedOn ranksOn endedOf newestAfter marksOn marksEnded setNote setValue setGlide legatoTime endedNote arrives glideMoved heldBy drawVoices withVoices withAlternate withLimit putBases lookupOf position cellOf partOfCell reach moved slewStep step scrambled drawBits drawOf rowAt onRow keptAmount keptOutput clampTo finite ne neg toBits toUnsigned audioFrame audioFrames newAudio audioSum allPlain fromPart toPart isSounding absOf
 e43 = refl
