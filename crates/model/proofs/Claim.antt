@@ -1,30 +1,39 @@
 -- THE ONE CLAIM OVER EVERY LIST OF CALLS (demand 3; stated in specs/Claim.antt): from every engine whose programs are what their names were compiled from, and so from every fresh one.
 -- Assumes nothing.
 use mathlib.Core.Path.{_≡_, refl, sym, ap, subst, _∙_}
-use mathlib.Core.Logic.{_⊎_, inl, inr}
+use mathlib.Core.Logic.{_⊎_, inl, inr, _↔_}
 use mathlib.Core.Bool.{Bool, true, false, cond}
 use mathlib.Core.List.{List, [], _∷_, _++_}
 use Prim.Native.Nat.{ℕ, zero, suc, _≤_}
+use lib.Dec.{eqb}
 use lib.ListN.{length}
 use lib.Ieee.{Float}
+use borrow.Author.Tests.{eq-eqb}
 use Rattle.config.specs.Sizes.{slots}
 use Rattle.config.specs.declared.Config.{Config}
-use Rattle.feed.proofs.Tests.{which}
+use Rattle.judge.specs.Judge.{judged}
+use Rattle.feed.proofs.Acyclic.{ordered-exactly}
 use Rattle.state.specs.declared.Sources.{Sources}
 use Rattle.state.specs.declared.Destinations.{Destinations}
 use Rattle.state.specs.declared.Block.{Block}
 use Rattle.state.specs.declared.Chunk.{Chunk}
 use Rattle.state.specs.declared.Signals.{Signals}
 use Rattle.state.specs.declared.Wiring.{Wiring}
+use Rattle.model.specs.Feeds.{countedInto, controls}
 use Rattle.model.specs.Plans.{compiled}
+use Rattle.model.specs.Compile.{Memories, compileRows, compile}
 use Rattle.model.specs.Tick.{tickOf}
 use Rattle.model.specs.Chunks.{chunkTotal, chunkOf}
 use Rattle.model.specs.World.{World}
+use Rattle.model.specs.States.{putState, putHeld, putGlobals, putBases}
+use Rattle.model.specs.Settings.{freshState, freshWorld, refusedState, newRows, newEngine}
 use Rattle.model.specs.Process.{envOf, snapOf, blockOf, loaded, drawn, chunkSteps, process}
 use Rattle.model.specs.Calls.{Call, held-set, voice-held-set, base-set, amount-set, output-set, limit-set, note-on, note-off, voice-ended, swap, block, program-memory, engine-memory, read, Runner, onWorld, called, run}
 use Rattle.model.specs.Rule.{Unbarred}
 use Rattle.model.specs.Model.{Ticks, Does, Rendered, Models, finish, call, walks}
-use Rattle.model.specs.Claim.{Moment, tickAt, chunkTicks, blockTicks, callTicks, ticksOf, Claimed, Named, Compiled, namesOf, freshRunner, Slotted, Each, Claim}
+use Rattle.model.specs.Claim.{Moment, tickAt, chunkTicks, blockTicks, callTicks, ticksOf, chainless, Claimed, Named, nothingWired, Compiled, namesOf, freshRunner, Slotted, Each, Claim}
+use Rattle.model.proofs.Conds.{cond-true}
+use Rattle.model.proofs.Made.{empty-is-compiled}
 use Rattle.model.proofs.Frames.{steps-frame}
 use Rattle.model.proofs.ModelRuns.{Good, good-frame, walks-good, blocks-there, blocks-one}
 use Rattle.model.proofs.NamedHolds.{called-named, fresh-named}
@@ -115,7 +124,7 @@ module _ (names : ℕ → Wiring) where
       let w = names (r .installed) in
       e .same
       ∙ ap (onWorld r)
-        (blocks-one w (there w (h .slotted (r .installed))) (one w (h .slotted (r .installed))) samples signals start end (r .world) (h .installed) (e .after) (e .blocks))
+      (blocks-one w (there w (h .slotted (r .installed))) (one w (h .slotted (r .installed))) samples signals start end (r .world) (h .installed) (e .after) (e .blocks))
   does-one (program-memory k values audio tables) r q h e = e
   does-one (engine-memory held globals bases) r q h e = e
   does-one read r q h e = e
@@ -162,6 +171,25 @@ module _ (names : ℕ → Wiring) where
 -- and so of every fresh engine, with any programs compiled from matrices of 64 slots
 pub fresh-claim : (ss : Sources) (ds : Destinations) (c : Config) (ps : List Compiled) → Slotted ps → (cs : List Call) → Claim (namesOf c ps) cs (freshRunner ss ds c ps)
 fresh-claim ss ds c ps s cs = the-claim (namesOf c ps) cs (freshRunner ss ds c ps) (fresh-named c ss ds ps s)
+
+-- ---- what it rests on can be met
+
+-- the program of every engine that is made is the one compiled from nothing
+pub made-named : (ss : Sources) (ds : Destinations) (c : Config) (u : World) → newEngine ss ds c u .code ≡ 0 → newEngine ss ds c u .world .state .program ≡ compiled (nothingWired c)
+unfolding newEngine freshState putBases putGlobals putHeld putState
+made-named ss ds c u e =
+    ap (λ (x : World). x .state .program) (cond-true (eqb (judged (newRows ss ds c u)) 0) (freshWorld ss ds c u) (putState u refusedState) (eq-eqb (judged (newRows ss ds c u)) 0 e))
+    ∙ sym (empty-is-compiled _ _ c)
+
+-- a program that compiling hands back is the one compiled from its wiring
+pub compile-named : (w : Wiring) (tables : List Float) (l : Memories) → compile w tables l .answer .code ≡ 0 → compile w tables l .answer .program ≡ compiled w
+unfolding compile
+compile-named w tables l e = cond-true (eqb (judged (compileRows w tables l)) 0) (compiled w) _ (eq-eqb (judged (compileRows w tables l)) 0 e)
+
+-- THE TEST DECIDES THE CHAIN
+pub chain-tested : (w : Wiring) → (chainless w ≡ true) ↔ Unbarred w
+unfolding chainless
+chain-tested w = ordered-exactly (countedInto w) (controls w)
 
 -- after any list of calls the claim is made again
 pub claim-again : (names : ℕ → Wiring) (cs : List Call) (r : Runner) → Named names r → Named names (run cs r)

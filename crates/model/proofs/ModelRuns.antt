@@ -80,7 +80,7 @@ module _ (u : World) (samples : List Float) (signals : Signals) (start end : ℕ
   pub walks-chunks : walks u samples signals start end ≡ true
       → process u samples signals start end .world
       ≡ closed (blockOf (u .state) start end) (end - start)
-        (chunkSteps samples signals (blockOf (u .state) start end) (chunkTotal (blockOf (u .state) start end)) (drawn (loaded u)))
+      (chunkSteps samples signals (blockOf (u .state) start end) (chunkTotal (blockOf (u .state) start end)) (drawn (loaded u)))
   unfolding process
   walks-chunks e =
       let accepted = and-true-l (eqb (process u samples signals start end .code) 0 && ltb start end) (not (eqb (routeTotal (u .state .program)) 0)) e in
@@ -96,9 +96,9 @@ walks-good u samples signals start end is e =
 
 module _ (w : Wiring)
     (there : (u : World) (samples : List Float) (signals : Signals) (c : Chunk) (snap : Bool) → Good w u
-        → Ticks w (u .state) (envOf u samples signals c snap) (c .phase) (u .values) (tickOf (u .state) (envOf u samples signals c snap) (c .phase) (u .values)))
+    → Ticks w (u .state) (envOf u samples signals c snap) (c .phase) (u .values) (tickOf (u .state) (envOf u samples signals c snap) (c .phase) (u .values)))
     (one : (u : World) (samples : List Float) (signals : Signals) (c : Chunk) (snap : Bool) (m : List Float) → Good w u
-        → Ticks w (u .state) (envOf u samples signals c snap) (c .phase) (u .values) m → m ≡ tickOf (u .state) (envOf u samples signals c snap) (c .phase) (u .values))
+    → Ticks w (u .state) (envOf u samples signals c snap) (c .phase) (u .values) m → m ≡ tickOf (u .state) (envOf u samples signals c snap) (c .phase) (u .values))
     (samples : List Float) (signals : Signals) where
   module _ (i : ℕ) (c : Chunk) (u : World) (g : Good w u) where
     abbrev after : World → World

@@ -253,9 +253,10 @@ module _ (names : ℕ → Wiring) (r : Runner) (h : Named names r) where
   swapped-named k = go (which (eqb (swapProgram (r .world .state) (programAt r k) .code) 0))
     where
       other : (eqb k (r .installed) || not (ltb k (length (r .kept))) ≡ false) → (k ≢ r .installed) × (k < length (r .kept))
-      other e =
-          (λ q. let z = or-false-l (eqb k (r .installed)) (not (ltb k (length (r .kept)))) e in absurd-test (sym (eq-eqb k (r .installed) q) ∙ z),
-          ltb-true k (length (r .kept)) (not-false (ltb k (length (r .kept))) (or-false-r (eqb k (r .installed)) (not (ltb k (length (r .kept)))) e)))
+      other e = (
+        λ q. let z = or-false-l (eqb k (r .installed)) (not (ltb k (length (r .kept)))) e in absurd-test (sym (eq-eqb k (r .installed) q) ∙ z),
+        ltb-true k (length (r .kept)) (not-false (ltb k (length (r .kept))) (or-false-r (eqb k (r .installed)) (not (ltb k (length (r .kept)))) e)),
+      )
 
       go : (eqb (swapProgram (r .world .state) (programAt r k) .code) 0 ≡ true) ⊎ (eqb (swapProgram (r .world .state) (programAt r k) .code) 0 ≡ false) → Named names (swapped r k)
       go (inr e) = subst (Named names) (sym (cond-false (eqb (swapProgram (r .world .state) (programAt r k) .code) 0) _ r e)) h

@@ -120,11 +120,14 @@ module _ (w : Wiring) (slotted : length (w .matrix .slot) ≡ slots) (st : State
           base = plan .base;
           count = plan .count;
           routes =
-              λ j h.
-              (slotInto w d j,
-              (route-of w slotted st is d j used h
-              ∙ ap (λ (e : ℕ). routeIn (w .config .«sample_rate») (w .sources) (planOrder w) (slotOf w (slotInto w d j)) (destVoice w e) (readerBy (feederOf w) (slotInto w d j))) (sym (slot-dest w d j h)),
-              refl));
+              λ j h. (
+                slotInto w d j,
+                (
+                  route-of w slotted st is d j used h
+                      ∙ ap (λ (e : ℕ). routeIn (w .config .«sample_rate») (w .sources) (planOrder w) (slotOf w (slotInto w d j)) (destVoice w e) (readerBy (feederOf w) (slotInto w d j))) (sym (slot-dest w d j h)),
+                  refl,
+                ),
+              );
         }
 
     lanes-plan : lanesOf w t d ≡ widthOf t (planMix st (place d))

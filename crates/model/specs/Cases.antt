@@ -78,11 +78,11 @@ case8 =
 
 -- ---- wirings: sources without keys, destinations from 0 to 1 at control rate, slots with a source, an amount and a destination
 
-abbrev source : Kind → Range → Source
+abbrev pub source : Kind → Range → Source
 source k r = record { key = []; len = 0; kind = k; scope = S.Global; range = r }
 
 -- parameter n, with a feed
-abbrev dest : ℕ → Feed → Dest
+abbrev pub dest : ℕ → Feed → Dest
 dest n f = record { target = G.Param n; scope = S.Global; rate = T.Control; min = zero32; max = one32; feed = f }
 
 -- from source i to parameter n
@@ -101,7 +101,7 @@ slot i n amount p =
       bypass = false;
     }
 
-abbrev wired : List Source → List Dest → List Slot → Wiring
+abbrev pub wired : List Source → List Dest → List Slot → Wiring
 wired ss ds l =
     record {
       matrix = record { slot = l; velocity = N.Linear; key = N.Linear; glide = false; «velocity_legato» = false };
@@ -111,7 +111,7 @@ wired ss ds l =
     }
 
 -- destination n feeds source n, for n up to 2; source 3 is a constant
-abbrev feeding : List Slot → Wiring
+abbrev pub feeding : List Slot → Wiring
 feeding l =
     let held = source K.Held R.Unipolar in
     wired (held ∷ held ∷ held ∷ source K.Constant R.Unipolar ∷ []) (dest 0 (F.Source 0) ∷ dest 1 (F.Source 1) ∷ dest 2 (F.Source 2) ∷ []) l
@@ -120,7 +120,7 @@ feeding l =
 abbrev ordered : Wiring → List ℕ
 ordered w = map (λ (p : Plan). p .dest) (plansOf w)
 
-abbrev route : ℕ → ℕ → Slot
+abbrev pub route : ℕ → ℕ → Slot
 route i n = slot i n one32 Q.Unipolar
 
 -- "Feeds 2→0, 1→2 (a→b: b reads a): order 1, 2, 0."

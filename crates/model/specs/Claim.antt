@@ -11,6 +11,7 @@ use Rattle.config.specs.Sizes.{slots, mostSources, mostDestinations}
 use Rattle.config.specs.declared.Config.{Config}
 use Rattle.number.specs.Same.{_≈_}
 use Rattle.feed.specs.Numbers.{In}
+use Rattle.feed.specs.Order.{order, ordered}
 use Rattle.state.specs.declared.Sources.{Sources}
 use Rattle.state.specs.declared.Destinations.{Destinations}
 use Rattle.state.specs.declared.Block.{Block}
@@ -19,7 +20,7 @@ use Rattle.state.specs.declared.State.{State}
 use Rattle.state.specs.declared.Wiring.{Wiring}
 use Rattle.state.specs.Registry.{noSource, noDest}
 use Rattle.slot.specs.Matrix.{newMatrix}
-use Rattle.model.specs.Feeds.{controls}
+use Rattle.model.specs.Feeds.{countedInto, controls}
 use Rattle.model.specs.Plans.{compiled}
 use Rattle.model.specs.Env.{Env, Rows}
 use Rattle.model.specs.Tick.{tickOf}
@@ -75,6 +76,13 @@ callTicks names read r = []
 abbrev pub ticksOf : (ℕ → Wiring) → List Call → Runner → List Moment
 ticksOf names [] r = []
 ticksOf names (c ∷ cs) r = callTicks names c r ++ ticksOf names cs (called c r)
+
+-- ---- chains
+
+-- a test that says of what a program was compiled from whether a chain is barred: the order that the counted feeds themselves would give has no feeder behind what it feeds
+unfoldable pub chainless : Wiring → Bool
+unfolding order countedInto controls
+chainless w = ordered (countedInto w) (order (countedInto w) (controls w))
 
 -- ---- what is claimed of a tick
 

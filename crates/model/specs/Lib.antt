@@ -29,3 +29,4 @@ pub mod Model
 pub mod Claim
 mod CompiledExamples
 mod SessionExamples
+mod ClaimExamples

@@ -21,6 +21,11 @@ pub record World : Type 0 where
   pub audio : List Float
   pub tables : List Float
 
+-- by its parts
+abbrev pub worldOf : State → List Float → List Float → List Float → List Float → List Float → List Float → World
+worldOf st held globals bases values audio tables =
+    record { state = st; held = held; globals = globals; bases = bases; values = values; audio = audio; tables = tables }
+
 abbrev pub noMark : SourceMark
 noMark = record { kind = K.Signal; scope = S.Voice }
 
