@@ -16,19 +16,15 @@ use Rattle.state.specs.declared.Signals.{Signals}
 use Rattle.state.specs.declared.State.{State}
 use Rattle.model.specs.Counts.{voiceCount, controlTotal, planTotal, routeTotal, planAt, routeAt}
 use Rattle.model.specs.Env.{Env, Own}
-use Rattle.model.specs.Tick.{fillFrom, putSlews, turn, turns, tickOf}
+use Rattle.model.specs.Tick.{putSlews, turn, turns, tickOf}
 use Rattle.model.specs.Audio.{Sounds, atFrame, audioFrame, audioFrames, audioPlans, audioOf}
 use Rattle.model.specs.Chunks.{chunkOf}
 use Rattle.model.specs.World.{World}
 use Rattle.model.specs.States.{withMarks, withVelocity, withKey, withDraw, withPhase, withBlock, withPrimed, putState, putHeld, putGlobals, putValues, putAudio}
 use Rattle.model.specs.Process.{glided, loaded, Drawn, drawVoices, randomStart, drawRead, drawAux, drawRoutes, putDrawn, drawn, envOf, snapOf, primedWith, ticked, rowOfChunk, rowsOfChunk, rowed, sounded, afterTick, chunkStep, chunkSteps, closed}
+use Rattle.model.proofs.FillFrom.{fill-length}
 
 -- ---- how long
-
-fill-length : (m : List Float) (a : ℕ) (g : ℕ → Float) (n : ℕ) → length (fillFrom m a g n) ≡ length m
-unfolding fillFrom
-fill-length m a g zero = refl
-fill-length m a g (suc n) = length-set (fillFrom m a g n) (a + n) (g n) ∙ fill-length m a g n
 
 slews-length : (st : State) (d : ℕ) (g : Own) (k : ℕ) (m : List Float) → length (putSlews st d g k m) ≡ length m
 unfolding putSlews

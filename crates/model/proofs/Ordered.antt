@@ -35,7 +35,7 @@ use Rattle.model.proofs.InUse.{in-use-ascending, in-use-distinct}
 
 -- ---- one list behind another
 
-count-append : (a : ℕ) (xs ys : List ℕ) → count a (xs ++ ys) ≡ count a xs + count a ys
+pub count-append : (a : ℕ) (xs ys : List ℕ) → count a (xs ++ ys) ≡ count a xs + count a ys
 count-append a [] ys = omega arith
 count-append a (x ∷ xs) ys = omega (arith, count-append a xs ys)
 

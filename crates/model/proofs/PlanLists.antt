@@ -39,6 +39,7 @@ use Rattle.model.specs.Outputs.{planOf}
 use Rattle.model.specs.Rule.{candidatesInto, noCandidate}
 use Rattle.model.specs.Model.{routeOf}
 use Rattle.model.proofs.RouteCount.{into, AllIn}
+use Rattle.model.proofs.Ordered.{count-append}
 
 -- ---- the slots of a destination
 
@@ -178,10 +179,6 @@ route-index n (r ∷ rs) = go (ℕ-discrete n (r .slot)) (route-index n rs)
     go : Dec (n ≡ r .slot) → routeOf n rs ≡ indexOf n (routeSlots rs) → routeOf n (r ∷ rs) ≡ indexOf n (routeSlots (r ∷ rs))
     go (yes p) ih = rw (eq-eqb n (r .slot) p, eq-eqb (r .slot) n (sym p))
     go (no k) ih = rw (ne-eqb n (r .slot) k, ne-eqb (r .slot) n (λ q. k (sym q)), ih)
-
-count-append : (a : ℕ) (xs ys : List ℕ) → count a (xs ++ ys) ≡ count a xs + count a ys
-count-append a [] ys = omega arith
-count-append a (x ∷ xs) ys = omega (arith, count-append a xs ys)
 
 -- how often n is the slot of a candidate into a destination of the list
 abbrev timesOver : ℕ → List ℕ → List Candidate → ℕ
