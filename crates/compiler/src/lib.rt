@@ -1,12 +1,15 @@
 // A program from what it is compiled from (document 01, Plan and route; program.rs 296-558). The definitions are in model's specs/Plans.
 ghost use mathlib.Core.Path.{_≡_};
 ghost use mathlib.Core.List.{[], map};
+ghost use Prim.Native.Nat.{_≤_};
+ghost use lib.ListN.{length};
 ghost use Rattle.state.specs.declared.Slot.{Slot};
 ghost use Rattle.filled.specs.Filled.{candidatesIn, readersIn, numbersIn, plansOf, routesOf};
 ghost use Rattle.state.specs.Registry.{destAt};
 ghost use Rattle.model.specs.Feeds.{isVoice, counted, audioIn};
 ghost use Rattle.model.specs.Routes.{routesIn};
 ghost use Rattle.model.specs.Plans.{readersInto, planBy, plansIn, routesOver, gainsOf, compiled};
+ghost use Rattle.model.specs.Compile.{emptyOf, zeroed};
 ghost use Rattle.routing.specs.Added.{routesAdded};
 use config::Config;
 use config::SLOTS;
@@ -20,6 +23,7 @@ use state::Dest;
 use state::Destinations;
 use state::Gains;
 use state::Matrix;
+use state::NoteCurve;
 use state::Plan;
 use state::Program;
 use state::Slot;
@@ -215,4 +219,45 @@ pub fn compiled(matrix: Matrix, sources: Sources, dests: Destinations, config: C
         skips: left_out.count,
         skipped,
     }
+}
+
+// the program with no plans and no routes
+pub fn empty_of(config: Config) -> Program
+    ensures { λ r. ⌜ r ≡ emptyOf config ⌝ }
+{
+    let plans = filled::no_plans();
+    let plan = plans.at;
+    let routes = filled::no_routes();
+    let route = routes.at;
+    let skips = filled::no_skips();
+    let skipped = skips.at;
+    let amount = [0.0; SLOTS];
+    let output = [1.0; SLOTS];
+    let gains = Gains { amount, output };
+    Program {
+        config,
+        sources: 0,
+        dests: 0,
+        plans: 0,
+        control: 0,
+        routes: 0,
+        plan,
+        route,
+        gains,
+        velocity: NoteCurve::Linear,
+        key: NoteCurve::Linear,
+        glide: false,
+        velocity_legato: false,
+        tabled: false,
+        skips: 0,
+        skipped,
+    }
+}
+
+// the first n numbers become 0
+pub fn zero(mem: &mut [f32], n: usize)
+    requires { ⌜ n ≤ length (now mem) ⌝ }
+    ensures { λ _. ⌜ now (mem .exit) ≡ zeroed n (now (mem .entry)) ⌝ }
+{
+    list::fill_part(mem, 0, n, 0.0);
 }

@@ -1,23 +1,19 @@
 // Compiled programs, and what they are sized for. Every `pub fn` is a public call.
 ghost use mathlib.Core.Path.{_≡_};
 ghost use mathlib.Core.Bool.{_&&_, _||_};
-ghost use Prim.Native.Nat.{_≤_};
 ghost use lib.Dec.{ltb};
 ghost use lib.ListN.{length};
 ghost use Rattle.config.specs.Configuration.{configCode};
 ghost use Rattle.number.specs.Number.{one32};
 ghost use Rattle.tables.specs.Tables.{tablesNeed};
-ghost use Rattle.model.specs.Compile.{emptyOf, emptyProgram, numbersAllowed, zeroed, compile};
+ghost use Rattle.model.specs.Compile.{emptyOf, emptyProgram, numbersAllowed, compile};
 ghost use Rattle.program.specs.Sizes.{strideCall, maxChunksCall};
 ghost use Rattle.program.specs.Readers.{routeCount, planCount, planAt, routeAt, skipCount, skippedAt, rateBy, rateOf, configOf};
 ghost use Rattle.program.specs.Steps.{earlyCode, heldValues, heldAudio, copied};
 use config::Config;
-use config::SLOTS;
 use state::Compiled;
 use state::Destinations;
-use state::Gains;
 use state::Matrix;
-use state::NoteCurve;
 use state::Plan;
 use state::Program;
 use state::Route;
@@ -63,39 +59,6 @@ pub fn max_chunks(config: Config) -> Count
 
 // ---- making programs
 
-// the program with no plans and no routes
-fn empty_of(config: Config) -> Program
-    ensures { λ r. ⌜ r ≡ emptyOf config ⌝ }
-{
-    let plans = filled::no_plans();
-    let plan = plans.at;
-    let routes = filled::no_routes();
-    let route = routes.at;
-    let skips = filled::no_skips();
-    let skipped = skips.at;
-    let amount = [0.0; SLOTS];
-    let output = [1.0; SLOTS];
-    let gains = Gains { amount, output };
-    Program {
-        config,
-        sources: 0,
-        dests: 0,
-        plans: 0,
-        control: 0,
-        routes: 0,
-        plan,
-        route,
-        gains,
-        velocity: NoteCurve::Linear,
-        key: NoteCurve::Linear,
-        glide: false,
-        velocity_legato: false,
-        tabled: false,
-        skips: 0,
-        skipped,
-    }
-}
-
 // a refusal, with the empty program for rate 1, 0 frames, 0 voices
 fn refused(code: u8) -> Compiled
     ensures { λ r. ⌜ r ≡ record { code = code; program = emptyOf (record { «sample_rate» = one32; «max_frames» = 0; voices = 0 }) } ⌝ }
@@ -107,7 +70,7 @@ fn refused(code: u8) -> Compiled
     };
     Compiled {
         code,
-        program: empty_of(none),
+        program: compiler::empty_of(none),
     }
 }
 
@@ -127,7 +90,7 @@ pub fn empty(config: Config) -> Compiled
     }
     Compiled {
         code: 0,
-        program: empty_of(config),
+        program: compiler::empty_of(config),
     }
 }
 
@@ -195,14 +158,6 @@ fn audio_need(program: Program) -> usize
     need::audio(config.voices, config.max_frames, program.plans)
 }
 
-// the first n numbers become 0
-fn zero(mem: &mut [f32], n: usize)
-    requires { ⌜ n ≤ length (now mem) ⌝ }
-    ensures { λ _. ⌜ now (mem .exit) ≡ zeroed n (now (mem .entry)) ⌝ }
-{
-    list::fill_part(mem, 0, n, 0.0);
-}
-
 // the matrix's tables into the program's, where a table is named and both memories are long enough
 fn copy_tables(named: bool, tables: &mut [f32], from: &[f32])
     ensures { λ _. ⌜ now (tables .exit) ≡ copied named (now (tables .entry)) (now (from .entry)) ⌝ }
@@ -244,8 +199,8 @@ pub fn compile(
     if memory_short(program, values.len(), audio.len()) {
         return refused(14);
     }
-    zero(values, values_need(program));
-    zero(audio, audio_need(program));
+    compiler::zero(values, values_need(program));
+    compiler::zero(audio, audio_need(program));
     copy_tables(program.tabled, tables, matrix_tables);
     Compiled { code: 0, program }
 }

@@ -1,0 +1,3 @@
+pub mod SettingDone
+pub mod SettingNew
+pub mod NotingCalls

@@ -1,0 +1,500 @@
+// The engine (docs/CALLS.md). Every `pub fn` is a public call; definitions stand in the crate model, over the state and the lists that the lent slices hold.
+ghost use mathlib.Core.Path.{_≡_};
+ghost use mathlib.Core.List.{[]};
+ghost use Rattle.model.specs.World.{worldOf};
+ghost use Rattle.model.specs.Settings.{refusedState, newEngine, unboundSignals, bindSignal, setHeld, setVoiceHeld, setBase, setAmount, setOutput, setVoiceLimit, swapProgram};
+ghost use Rattle.model.specs.Outputs.{engineStride, engineProgram};
+ghost use mathlib.Core.Bool.{not, _||_};
+ghost use Rattle.model.specs.NoteCalls.{newNote, noteFinite, noteOn, noteOff, voiceEnded, isActive};
+ghost use Rattle.noting.specs.Noting.{Inside, soundOn, heldOn};
+ghost use Rattle.noting.specs.Parts.{soundingOf, stateWith};
+ghost use Rattle.engine.specs.Noting.{noteOf, settingBy};
+use config::Config;
+use config::SIGNAL_STRIDE;
+use config::SOURCES;
+use noting::Lane;
+use noting::RELEASE;
+use noting::Setting;
+use noting::Sounding;
+use state::Bound;
+use state::Destinations;
+use state::Flag;
+use state::NoteCurve;
+use state::Program;
+use state::SignalPart;
+use state::Signals;
+use state::Sources;
+use state::State;
+use tables::KEY_PLACE;
+use tables::VELOCITY_PLACE;
+
+// An engine; its memories are lent with each call.
+pub struct Engine {
+    state: State,
+}
+
+// A new engine, or the row by which it is refused, with the engine for rate 1, 0 frames, 0 voices and nothing registered.
+pub struct Made {
+    pub code: u8,
+    pub engine: Engine,
+}
+
+// The engine after a call, or as it came with the row by which the call is refused.
+pub struct Done {
+    pub code: u8,
+    pub engine: Engine,
+}
+
+// The engine with the program installed and the one that it replaces; on a refusal both as they came.
+pub struct Swapped {
+    pub code: u8,
+    pub engine: Engine,
+    pub program: Program,
+}
+
+// ---- making, settings and swap (engine.rs 273-446)
+
+impl Engine {
+    // An engine with the empty program, its memories set to 0.
+    pub fn new(
+        sources: Sources,
+        dests: Destinations,
+        config: Config,
+        held: &mut [f32],
+        globals: &mut [f32],
+        bases: &mut [f32],
+    ) -> Made
+        ensures answer { λ r. ⌜ (r .code ≡ newEngine sources dests config (worldOf refusedState (now (held .entry)) (now (globals .entry)) (now (bases .entry)) [] [] []) .code) × (r .engine .state ≡ newEngine sources dests config (worldOf refusedState (now (held .entry)) (now (globals .entry)) (now (bases .entry)) [] [] []) .world .state) ⌝ }
+        ensures lent { λ _. ⌜ (now (held .exit) ≡ newEngine sources dests config (worldOf refusedState (now (held .entry)) (now (globals .entry)) (now (bases .entry)) [] [] []) .world .held) × ((now (globals .exit) ≡ newEngine sources dests config (worldOf refusedState (now (held .entry)) (now (globals .entry)) (now (bases .entry)) [] [] []) .world .globals) × (now (bases .exit) ≡ newEngine sources dests config (worldOf refusedState (now (held .entry)) (now (globals .entry)) (now (bases .entry)) [] [] []) .world .bases)) ⌝ }
+    {
+        let n = setting::sources_of(sources.count);
+        let d = setting::dests_of(dests.count);
+        let code = setting::new_code(config, n, d, held.len(), globals.len(), bases.len());
+        if code != 0 {
+            let state = setting::refused_state();
+            let engine = Engine { state };
+            return Made { code, engine };
+        }
+        compiler::zero(held, setting::held_need(config, n));
+        compiler::zero(globals, n);
+        compiler::zero(bases, d);
+        let entry = sources.entry;
+        let mark = setting::marks_of(entry);
+        let state = setting::fresh_state(config, n, d, mark);
+        let engine = Engine { state };
+        Made { code: 0, engine }
+    }
+
+    // The program is installed, and the one that it replaces comes back.
+    pub fn swap(self, program: Program) -> Swapped
+        ensures { λ r. ⌜ (r .code ≡ swapProgram (self .state) program .code) × ((r .engine .state ≡ swapProgram (self .state) program .state) × (r .program ≡ swapProgram (self .state) program .program)) ⌝ }
+    {
+        let mut state = self.state;
+        let config = state.config;
+        let other = program.config;
+        let code = setting::swap_code(
+            config,
+            state.sources,
+            state.dests,
+            other,
+            program.sources,
+            program.dests,
+            program.routes,
+        );
+        if code != 0 {
+            return Swapped {
+                code,
+                engine: self,
+                program,
+            };
+        }
+        let old = state.program;
+        let gains = program.gains;
+        let voices = state.voices;
+        let active = voices.active;
+        let marks = state.marks;
+        let marked = marks.swapped(active);
+        state.program = program;
+        state.gains = gains;
+        state.marks = marked;
+        state.primed = false;
+        let engine = Engine { state };
+        Swapped {
+            code: 0,
+            engine,
+            program: old,
+        }
+    }
+
+    // The lane stride.
+    pub fn stride(self) -> usize
+        ensures { λ r. ⌜ r ≡ engineStride (self .state) ⌝ }
+    {
+        config::lane_stride(self.state.config.voices)
+    }
+
+    // The installed program.
+    pub fn program(self) -> Program
+        ensures { λ r. ⌜ r ≡ engineProgram (self .state) ⌝ }
+    {
+        let state = self.state;
+        let program = state.program;
+        program
+    }
+
+    // A source's held number: all lanes of a source per voice, the one number of a global one.
+    pub fn set_held(self, held: &mut [f32], globals: &mut [f32], source: usize, value: f32) -> Done
+        ensures { λ r. ⌜ (r .code ≡ setHeld (worldOf (self .state) (now (held .entry)) (now (globals .entry)) [] [] [] []) source value .code) × ((r .engine .state ≡ setHeld (worldOf (self .state) (now (held .entry)) (now (globals .entry)) [] [] [] []) source value .world .state) × ((now (held .exit) ≡ setHeld (worldOf (self .state) (now (held .entry)) (now (globals .entry)) [] [] [] []) source value .world .held) × (now (globals .exit) ≡ setHeld (worldOf (self .state) (now (held .entry)) (now (globals .entry)) [] [] [] []) source value .world .globals))) ⌝ }
+    {
+        let state = self.state;
+        let config = state.config;
+        let code = setting::held_code(
+            config,
+            state.sources,
+            held.len(),
+            globals.len(),
+            source,
+            value,
+        );
+        if code != 0 {
+            return Done { code, engine: self };
+        }
+        let mark = state.mark;
+        let voice = setting::voice_at(mark, source);
+        let stride = setting::stride_of(config);
+        setting::write_held(held, globals, voice, stride, source, value);
+        Done {
+            code: 0,
+            engine: self,
+        }
+    }
+
+    // One lane of a source's held number.
+    pub fn set_voice_held(self, held: &mut [f32], source: usize, voice: usize, value: f32) -> Done
+        ensures { λ r. ⌜ (r .code ≡ setVoiceHeld (worldOf (self .state) (now (held .entry)) [] [] [] [] []) source voice value .code) × ((r .engine .state ≡ setVoiceHeld (worldOf (self .state) (now (held .entry)) [] [] [] [] []) source voice value .world .state) × (now (held .exit) ≡ setVoiceHeld (worldOf (self .state) (now (held .entry)) [] [] [] [] []) source voice value .world .held)) ⌝ }
+    {
+        let state = self.state;
+        let config = state.config;
+        let code = setting::voice_held_code(
+            config,
+            state.sources,
+            held.len(),
+            source,
+            voice,
+            value,
+        );
+        if code != 0 {
+            return Done { code, engine: self };
+        }
+        let stride = setting::stride_of(config);
+        let at = source * stride + voice;
+        held[at] = value;
+        Done {
+            code: 0,
+            engine: self,
+        }
+    }
+
+    // A destination's base.
+    pub fn set_base(self, bases: &mut [f32], dest: usize, value: f32) -> Done
+        ensures { λ r. ⌜ (r .code ≡ setBase (worldOf (self .state) [] [] (now (bases .entry)) [] [] []) dest value .code) × ((r .engine .state ≡ setBase (worldOf (self .state) [] [] (now (bases .entry)) [] [] []) dest value .world .state) × (now (bases .exit) ≡ setBase (worldOf (self .state) [] [] (now (bases .entry)) [] [] []) dest value .world .bases)) ⌝ }
+    {
+        let code = setting::base_code(self.state.dests, bases.len(), dest, value);
+        if code != 0 {
+            return Done { code, engine: self };
+        }
+        bases[dest] = value;
+        Done {
+            code: 0,
+            engine: self,
+        }
+    }
+
+    // A slot's live amount, clamped to -1..1.
+    pub fn set_amount(self, slot: usize, amount: f32) -> Done
+        ensures { λ r. ⌜ (r .code ≡ setAmount (worldOf (self .state) [] [] [] [] [] []) slot amount .code) × (r .engine .state ≡ setAmount (worldOf (self .state) [] [] [] [] [] []) slot amount .world .state) ⌝ }
+    {
+        let code = setting::gain_code(slot, amount);
+        if code != 0 {
+            return Done { code, engine: self };
+        }
+        let mut state = self.state;
+        let gains = state.gains;
+        let next = setting::with_amount(gains, slot, amount);
+        state.gains = next;
+        let engine = Engine { state };
+        Done { code: 0, engine }
+    }
+
+    // A slot's live output, clamped to 0..1.
+    pub fn set_output(self, slot: usize, output: f32) -> Done
+        ensures { λ r. ⌜ (r .code ≡ setOutput (worldOf (self .state) [] [] [] [] [] []) slot output .code) × (r .engine .state ≡ setOutput (worldOf (self .state) [] [] [] [] [] []) slot output .world .state) ⌝ }
+    {
+        let code = setting::gain_code(slot, output);
+        if code != 0 {
+            return Done { code, engine: self };
+        }
+        let mut state = self.state;
+        let gains = state.gains;
+        let next = setting::with_output(gains, slot, output);
+        state.gains = next;
+        let engine = Engine { state };
+        Done { code: 0, engine }
+    }
+
+    // The voice limit, at least 1.
+    pub fn set_voice_limit(self, voices: usize) -> Done
+        ensures { λ r. ⌜ (r .code ≡ setVoiceLimit (worldOf (self .state) [] [] [] [] [] []) voices .code) × (r .engine .state ≡ setVoiceLimit (worldOf (self .state) [] [] [] [] [] []) voices .world .state) ⌝ }
+    {
+        let limit = setting::limit_of(voices);
+        let mut engine = self;
+        engine.state.limit = limit;
+        Done { code: 0, engine }
+    }
+}
+
+// ---- signals (engine.rs 36-66)
+
+// No source is bound.
+pub fn no_signals() -> Signals
+    ensures { λ r. ⌜ r ≡ unboundSignals ⌝ }
+{
+    let none = SignalPart {
+        at: 0,
+        len: 0,
+        stride: 0,
+    };
+    let part = [none; SOURCES];
+    Signals { part }
+}
+
+// A source's part of the samples.
+pub fn bind(signals: Signals, source: usize, at: usize, len: usize, stride: usize) -> Bound
+    ensures { λ r. ⌜ r ≡ bindSignal signals source at len stride ⌝ }
+{
+    if SIGNAL_STRIDE < stride {
+        return Bound { code: 13, signals };
+    }
+    if SOURCES <= source {
+        return Bound { code: 0, signals };
+    }
+    let mut next = signals;
+    let part = SignalPart { at, len, stride };
+    next.part[source] = part;
+    Bound {
+        code: 0,
+        signals: next,
+    }
+}
+
+// ---- notes
+
+// A note that starts on a voice.
+pub struct NoteOn {
+    pub key: f32,
+    pub velocity: f32,
+    pub legato: bool,
+    pub glide_seconds: f32,
+}
+
+impl NoteOn {
+    // a note that is not legato, with 0 seconds
+    pub fn new(key: f32, velocity: f32) -> NoteOn
+        ensures { λ r. ⌜ noteOf r ≡ newNote key velocity ⌝ }
+    {
+        NoteOn {
+            key,
+            velocity,
+            legato: false,
+            glide_seconds: 0.0,
+        }
+    }
+}
+
+// row 6 of a note
+fn note_finite(note: NoteOn) -> bool
+    ensures { λ r. ⌜ r ≡ noteFinite (noteOf note) ⌝ }
+{
+    if !number::is_finite(note.key) {
+        return false;
+    }
+    if !number::is_finite(note.velocity) {
+        return false;
+    }
+    number::is_finite(note.glide_seconds)
+}
+
+// Of a program, what a note goes by.
+struct Curves {
+    velocity: NoteCurve,
+    key: NoteCurve,
+    glide: bool,
+    velocity_legato: bool,
+}
+
+// whether a note sets its velocity
+fn takes_velocity(legato: bool, velocity_legato: bool) -> bool
+    ensures { λ r. ⌜ r ≡ not legato || «velocity_legato» ⌝ }
+{
+    if !legato {
+        return true;
+    }
+    velocity_legato
+}
+
+// what a note sets
+fn setting_by(tables: &[f32], curves: Curves, rate: f32, note: NoteOn) -> Setting
+    ensures { λ r. ⌜ r ≡ settingBy (now (tables .entry)) curves rate (noteOf note) ⌝ }
+{
+    let legato = note.legato;
+    let velocity_curve = curves.velocity;
+    let key_curve = curves.key;
+    let time = voice::legato_time(legato, curves.glide, note.glide_seconds);
+    Setting {
+        legato,
+        time,
+        rate,
+        takes: takes_velocity(legato, curves.velocity_legato),
+        velocity: noting::note_curve(tables, VELOCITY_PLACE, velocity_curve, note.velocity),
+        key: noting::note_curve(tables, KEY_PLACE, key_curve, note.key / 127.0),
+    }
+}
+
+// the state and the held numbers, once a note starts in a lane
+fn play(mut state: State, held: &mut [f32], lane: Lane, setting: Setting) -> State
+    requires { ⌜ Inside lane ⌝ }
+    ensures { λ r. ⌜ (r ≡ stateWith state (soundOn (state .mark) lane (soundingOf state) setting)) × (now (held .exit) ≡ heldOn (state .mark) lane (soundingOf state) setting (now (held .entry))) ⌝ }
+{
+    let mark = state.mark;
+    let voices = state.voices;
+    let marks = state.marks;
+    let velocity = state.velocity;
+    let key = state.key;
+    let sounding = Sounding {
+        voices,
+        marks,
+        velocity,
+        key,
+        alternate: state.alternate,
+        draw: state.draw,
+    };
+    let next = noting::note_on(held, mark, lane, sounding, setting);
+    let voices_next = next.voices;
+    state.voices = voices_next;
+    let marks_next = next.marks;
+    state.marks = marks_next;
+    let velocity_next = next.velocity;
+    state.velocity = velocity_next;
+    let key_next = next.key;
+    state.key = key_next;
+    state.alternate = next.alternate;
+    state.draw = next.draw;
+    state
+}
+
+impl Engine {
+    // A note starts on a voice.
+    pub fn note_on(self, held: &mut [f32], tables: &[f32], voice: usize, note: NoteOn) -> Done
+        ensures { λ r. ⌜ (r .code ≡ noteOn (worldOf (self .state) (now (held .entry)) [] [] [] [] (now (tables .entry))) voice (noteOf note) .code) × ((r .engine .state ≡ noteOn (worldOf (self .state) (now (held .entry)) [] [] [] [] (now (tables .entry))) voice (noteOf note) .world .state) × (now (held .exit) ≡ noteOn (worldOf (self .state) (now (held .entry)) [] [] [] [] (now (tables .entry))) voice (noteOf note) .world .held)) ⌝ }
+    {
+        let state = self.state;
+        let config = state.config;
+        let program = state.program;
+        let code = noting::code(
+            noting::no_voice(config.voices, voice),
+            note_finite(note),
+            noting::memory_short(
+                held.len(),
+                tables.len(),
+                state.sources,
+                config.voices,
+                program.tabled,
+            ),
+        );
+        if code != 0 {
+            return Done { code, engine: self };
+        }
+        let velocity_curve = program.velocity;
+        let key_curve = program.key;
+        let curves = Curves {
+            velocity: velocity_curve,
+            key: key_curve,
+            glide: program.glide,
+            velocity_legato: program.velocity_legato,
+        };
+        let setting = setting_by(tables, curves, config.sample_rate, note);
+        let lane = noting::lane_of(state.sources, config.voices, voice);
+        let next = play(state, held, lane, setting);
+        let engine = Engine { state: next };
+        Done { code: 0, engine }
+    }
+
+    // A note is released: its release velocity is written, and its voice sounds on.
+    pub fn note_off(self, held: &mut [f32], voice: usize, release_velocity: f32) -> Done
+        ensures { λ r. ⌜ (r .code ≡ noteOff (worldOf (self .state) (now (held .entry)) [] [] [] [] []) voice «release_velocity» .code) × ((r .engine .state ≡ noteOff (worldOf (self .state) (now (held .entry)) [] [] [] [] []) voice «release_velocity» .world .state) × (now (held .exit) ≡ noteOff (worldOf (self .state) (now (held .entry)) [] [] [] [] []) voice «release_velocity» .world .held)) ⌝ }
+    {
+        let state = self.state;
+        let config = state.config;
+        let code = noting::code(
+            noting::no_voice(config.voices, voice),
+            number::is_finite(release_velocity),
+            noting::held_short(held.len(), state.sources, config.voices),
+        );
+        if code != 0 {
+            return Done { code, engine: self };
+        }
+        let mark = state.mark;
+        let lane = noting::lane_of(state.sources, config.voices, voice);
+        noting::write_kind(held, mark, lane, RELEASE, release_velocity);
+        Done {
+            code: 0,
+            engine: self,
+        }
+    }
+
+    // A voice has stopped sounding.
+    pub fn voice_ended(self, held: &[f32], voice: usize) -> Done
+        ensures { λ r. ⌜ (r .code ≡ voiceEnded (worldOf (self .state) (now (held .entry)) [] [] [] [] []) voice .code) × (r .engine .state ≡ voiceEnded (worldOf (self .state) (now (held .entry)) [] [] [] [] []) voice .world .state) ⌝ }
+    {
+        let mut state = self.state;
+        let config = state.config;
+        let code = noting::code(
+            noting::no_voice(config.voices, voice),
+            true,
+            noting::held_short(held.len(), state.sources, config.voices),
+        );
+        if code != 0 {
+            return Done { code, engine: self };
+        }
+        let voices = state.voices;
+        let voices_next = voices.voice_ended(voice);
+        state.voices = voices_next;
+        let marks = state.marks;
+        let marks_next = marks.voice_ended(voice);
+        state.marks = marks_next;
+        let velocity = state.velocity;
+        let velocity_next = velocity.voice_ended(voice);
+        state.velocity = velocity_next;
+        let key = state.key;
+        let key_next = key.voice_ended(voice);
+        state.key = key_next;
+        let engine = Engine { state };
+        Done { code: 0, engine }
+    }
+
+    // whether a voice is active
+    pub fn is_active(self, voice: usize) -> Flag
+        ensures { λ r. ⌜ r ≡ isActive (self .state) voice ⌝ }
+    {
+        let state = self.state;
+        let config = state.config;
+        if noting::no_voice(config.voices, voice) {
+            return Flag { code: 2, on: false };
+        }
+        let voices = state.voices;
+        Flag {
+            code: 0,
+            on: voices.is_active(voice),
+        }
+    }
+}

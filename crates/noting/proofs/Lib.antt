@@ -1,0 +1,4 @@
+pub mod Steps
+pub mod KindNumbers
+pub mod Whole
+pub mod Answers

@@ -1,0 +1,5 @@
+pub mod Codes
+pub mod Marks
+pub mod Draws
+pub mod Rows
+pub mod Worlds

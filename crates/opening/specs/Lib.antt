@@ -1,0 +1,4 @@
+pub mod Codes
+pub mod Marks
+pub mod Draws
+pub mod Rows
