@@ -3,7 +3,7 @@ ghost use mathlib.Core.Path.{_≡_};
 ghost use mathlib.Core.List.{[]};
 ghost use Rattle.model.specs.World.{worldOf};
 ghost use Rattle.model.specs.Settings.{refusedState, newEngine, unboundSignals, bindSignal, setHeld, setVoiceHeld, setBase, setAmount, setOutput, setVoiceLimit, swapProgram};
-ghost use Rattle.model.specs.Outputs.{engineStride, engineProgram};
+ghost use Rattle.model.specs.Outputs.{engineStride, engineProgram, outputOf, audioPart, audioFrame, fromPart, toPart, chunkCount, chunkAt, audioAt, controlValue, rampOf, latestOf, latestAll};
 ghost use mathlib.Core.Bool.{not, _||_};
 ghost use Rattle.model.specs.NoteCalls.{newNote, noteFinite, noteOn, noteOff, voiceEnded, isActive};
 ghost use Rattle.noting.specs.Noting.{Inside, soundOn, heldOn};
@@ -17,10 +17,14 @@ use noting::RELEASE;
 use noting::Setting;
 use noting::Sounding;
 use state::Bound;
+use state::ChunkRead;
 use state::Destinations;
 use state::Flag;
 use state::NoteCurve;
+use state::Output;
 use state::Program;
+use state::Ramped;
+use state::Reading;
 use state::SignalPart;
 use state::Signals;
 use state::Sources;
@@ -496,5 +500,105 @@ impl Engine {
             code: 0,
             on: voices.is_active(voice),
         }
+    }
+}
+
+// ---- what is read of an engine
+
+impl Engine {
+    // The shape of a destination's output.
+    pub fn output(self, values: &[f32], audio: &[f32], dest: usize) -> Output
+        ensures { λ r. ⌜ r ≡ outputOf (self .state) (now (values .entry)) (now (audio .entry)) dest ⌝ }
+    {
+        let state = self.state;
+        reading::output(state, values, audio, dest)
+    }
+
+    // The audio rows of a destination.
+    pub fn audio_part(self, audio: &[f32], dest: usize) -> &[f32]
+        ensures { λ r. ⌜ now r ≡ audioPart (self .state) (now (audio .entry)) dest ⌝ }
+    {
+        let state = self.state;
+        reading::audio_part(state, audio, dest)
+    }
+
+    // The "from" rows of the last block's chunks.
+    pub fn from_part(self, values: &[f32], dest: usize) -> &[f32]
+        ensures { λ r. ⌜ now r ≡ fromPart (self .state) (now (values .entry)) dest ⌝ }
+    {
+        let state = self.state;
+        reading::from_part(state, values, dest)
+    }
+
+    // Their "to" rows.
+    pub fn to_part(self, values: &[f32], dest: usize) -> &[f32]
+        ensures { λ r. ⌜ now r ≡ toPart (self .state) (now (values .entry)) dest ⌝ }
+    {
+        let state = self.state;
+        reading::to_part(state, values, dest)
+    }
+
+    // How many chunks the last nonempty block made.
+    pub fn chunk_count(self) -> usize
+        ensures { λ r. ⌜ r ≡ chunkCount (self .state) ⌝ }
+    {
+        let state = self.state;
+        reading::chunk_count(state)
+    }
+
+    // Chunk i of them.
+    pub fn chunk(self, i: usize) -> ChunkRead
+        ensures { λ r. ⌜ r ≡ chunkAt (self .state) i ⌝ }
+    {
+        let state = self.state;
+        reading::chunk_at(state, i)
+    }
+
+    // The number at a frame, of an audio plan.
+    pub fn at(self, audio: &[f32], dest: usize, frame: usize, voice: usize) -> Reading
+        ensures { λ r. ⌜ r ≡ audioAt (self .state) (now (audio .entry)) dest frame voice ⌝ }
+    {
+        let state = self.state;
+        reading::at(state, audio, dest, frame, voice)
+    }
+
+    // The row at a frame, of an audio plan.
+    pub fn frame(self, audio: &[f32], dest: usize, frame: usize) -> &[f32]
+        ensures { λ r. ⌜ now r ≡ audioFrame (self .state) (now (audio .entry)) dest frame ⌝ }
+    {
+        let state = self.state;
+        reading::audio_frame(state, audio, dest, frame)
+    }
+
+    // The number after a chunk, of a control plan.
+    pub fn value(self, values: &[f32], dest: usize, chunk: usize, voice: usize) -> Reading
+        ensures { λ r. ⌜ r ≡ controlValue (self .state) (now (values .entry)) dest chunk voice ⌝ }
+    {
+        let state = self.state;
+        reading::value(state, values, dest, chunk, voice)
+    }
+
+    // The ramp of a control plan over the last block, a number a frame.
+    pub fn ramp(self, values: &[f32], dest: usize, voice: usize, out: &mut [f32]) -> Ramped
+        ensures { λ r. ⌜ (r ≡ rampOf (self .state) (now (values .entry)) dest voice (now (out .entry)) .answer) × (now (out .exit) ≡ rampOf (self .state) (now (values .entry)) dest voice (now (out .entry)) .out) ⌝ }
+    {
+        let state = self.state;
+        reading::ramp(state, values, dest, voice, out)
+    }
+
+    // The number after the last chunk, or at its last frame.
+    pub fn latest(self, values: &[f32], audio: &[f32], dest: usize, voice: usize) -> Reading
+        ensures { λ r. ⌜ r ≡ latestOf (self .state) (now (values .entry)) (now (audio .entry)) dest voice ⌝ }
+    {
+        let state = self.state;
+        reading::latest(state, values, audio, dest, voice)
+    }
+
+    // The latest number of every destination for each of so many voices.
+    pub fn latest_all(self, values: &[f32], audio: &[f32], voices: usize, out: &mut [f32]) -> u8
+        ensures { λ r. ⌜ (r ≡ latestAll (self .state) (now (values .entry)) (now (audio .entry)) voices (now (out .entry)) .code) × (now (out .exit) ≡ latestAll (self .state) (now (values .entry)) (now (audio .entry)) voices (now (out .entry)) .out) ⌝ }
+    {
+        let state = self.state;
+        reading::latest_all(state, values, audio, voices, out)
     }
 }

@@ -1,0 +1,9 @@
+pub mod Plans
+pub mod Memory
+pub mod Spots
+pub mod Readings
+pub mod PartsRead
+pub mod Calls
+pub mod Tables
+pub mod Ramps
+pub mod Latests

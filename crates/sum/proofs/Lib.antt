@@ -1,0 +1,4 @@
+pub mod Lanes
+pub mod Found
+pub mod Steps
+pub mod Jobs

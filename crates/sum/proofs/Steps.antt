@@ -1,0 +1,204 @@
+-- The sums route by route, by what the code finds. Assumes nothing.
+use mathlib.Core.Path.{_≡_, refl, sym, ap, _∙_}
+use mathlib.Core.Bool.{Bool, true, false, not, cond, _&&_, _||_}
+use Prim.Native.Nat.{ℕ, zero, suc, _+_, _<_}
+use native.Mathlib.Numerals.{add-one}
+use native.Mathlib.Decide.{ℕ-discrete}
+use native.Mathlib.Nat.{not-suc-le-zero}
+use native.Mathlib.Omega.{arith}
+use lib.Ieee.{Float}
+use Rattle.number.specs.Number.{zero32, plus, times}
+use Rattle.state.specs.declared.Gains.{Gains}
+use Rattle.state.specs.declared.Route.{Route}
+use Rattle.model.specs.Env.{Env, Rows, Own}
+use Rattle.model.specs.Lanes.{Lane, lane, nowhere, addend, inSpan}
+use Rattle.model.specs.Mix.{Mix}
+use Rattle.model.specs.RouteValue.{rawIn, routeValue, isZero, idle, plain}
+use Rattle.model.specs.Sums.{baseIn, offsetStep, offsets, somePlain, allPlain, hasPlain, scaledGain, plainStep, plains, addLane, otherStep, others, begun, tickSum, audioBegun, audioSum}
+use Rattle.input.proofs.Tests.{was-true, was-false}
+use Rattle.sum.specs.Job.{slotGain}
+
+-- ---- offsets
+
+pub offsets-none : (t : Env) (x : Mix) → zero32 ≡ offsets t x 0
+unfolding offsets
+offsets-none t x = refl
+
+pub offsets-next : (t : Env) (x : Mix) (j : ℕ) {a b : Float} → a ≡ offsets t x j → b ≡ offsetStep t x (x .route j) a → b ≡ offsets t x (j + 1)
+unfolding offsets
+offsets-next t x j e k = rw add-one (k ∙ ap (offsetStep t x (x .route j)) e)
+
+pub offset-none : (t : Env) (x : Mix) (r : Route) (a : Float) {b : Bool} → b ≡ plain t (x .voice) r → not b ≡ true → a ≡ offsetStep t x r a
+offset-none t x r a e h = rw (was-false e h)
+
+pub offset-some : (t : Env) (x : Mix) (r : Route) (a : Float) {b : Bool} {s : Gains} {g : Float} → b ≡ plain t (x .voice) r → not b ≡ false → t .gains ≡ s → g ≡ slotGain s (r .slot)
+    → plus a (times (r .offset) g) ≡ offsetStep t x r a
+offset-some t x r a e h q k = rw (was-true e h, q) (ap (λ (z : Float). plus a (times (r .offset) z)) k)
+
+-- ---- whether there is a plain route, and whether all are
+
+or-true : (a : Bool) → a || true ≡ true
+or-true true = refl
+or-true false = refl
+
+and-false : (a : Bool) → a && false ≡ false
+and-false true = refl
+and-false false = refl
+
+pub some-none : (t : Env) (x : Mix) → somePlain t x 0 ≡ false
+unfolding somePlain
+some-none t x = refl
+
+pub some-found : (t : Env) (x : Mix) (j k : ℕ) → j < k → plain t (x .voice) (x .route j) ≡ true → somePlain t x k ≡ true
+unfolding somePlain
+some-found t x j zero h e = absurd (not-suc-le-zero h)
+some-found t x j (suc k) h e = elim (ℕ-discrete j k) [
+  | yes q ↦
+      let at : plain t (x .voice) (x .route k) ≡ true = rw (sym q) e in
+      rw at (or-true (somePlain t x k))
+  | no q ↦ rw (some-found t x j k (omega arith) e)
+]
+
+pub some-next : (t : Env) (x : Mix) (j : ℕ) → somePlain t x j ≡ false → plain t (x .voice) (x .route j) ≡ false → somePlain t x (j + 1) ≡ false
+unfolding somePlain
+some-next t x j h e = rw add-one (rw (h, e))
+
+pub all-none : (t : Env) (x : Mix) → allPlain t x 0 ≡ true
+unfolding allPlain
+all-none t x = refl
+
+pub all-lost : (t : Env) (x : Mix) (j k : ℕ) → j < k → plain t (x .voice) (x .route j) ≡ false → allPlain t x k ≡ false
+unfolding allPlain
+all-lost t x j zero h e = absurd (not-suc-le-zero h)
+all-lost t x j (suc k) h e = elim (ℕ-discrete j k) [
+  | yes q ↦
+      let at : plain t (x .voice) (x .route k) ≡ false = rw (sym q) e in
+      rw at (and-false (allPlain t x k))
+  | no q ↦ rw (all-lost t x j k (omega arith) e)
+]
+
+pub all-next : (t : Env) (x : Mix) (j : ℕ) → allPlain t x j ≡ true → plain t (x .voice) (x .route j) ≡ true → allPlain t x (j + 1) ≡ true
+unfolding allPlain
+all-next t x j h e = rw add-one (rw (h, e))
+
+-- ---- plain routes
+
+cond-same : {A : Type 0} (b : Bool) (a : A) → a ≡ cond b a a
+cond-same true a = refl
+cond-same false a = refl
+
+skips : (on off : Bool) (new a : Float) → off ≡ true → a ≡ cond (on && not off) new a
+skips true off new a e = rw e
+skips false off new a e = refl
+
+scaled : (t : Env) (r : Route) {s : Gains} {g : Float} → t .gains ≡ s → g ≡ slotGain s (r .slot) → scaledGain t r ≡ times (r .scale) g
+scaled t r q k = rw q (ap (times (r .scale)) (sym k))
+
+-- a route that is not plain, and one whose factor is 0
+pub plain-left : (t : Env) (f : Rows) (s : Own) (x : Mix) (j l : ℕ) (a : Float) {r : Route} {b : Bool} → x .route j ≡ r → b ≡ plain t (x .voice) r → not b ≡ true
+    → a ≡ cond (inSpan t l) (plainStep t f s x j l (x .route j) a) a
+plain-left t f s x j l a q e h = rw (q, was-false e h) (cond-same (inSpan t l) a)
+
+zero-step : (t : Env) (f : Rows) (s : Own) (x : Mix) (j l : ℕ) (a : Float) (r : Route) {y : Float} → scaledGain t r ≡ y → isZero y ≡ true → a ≡ plainStep t f s x j l r a
+zero-step t f s x j l a r e z = skips (plain t (x .voice) r) (isZero (scaledGain t r)) _ a (ap isZero e ∙ z)
+
+pub plain-zero : (t : Env) (f : Rows) (s : Own) (x : Mix) (j l : ℕ) (a : Float) {r : Route} {v : Gains} {g : Float} → x .route j ≡ r → t .gains ≡ v → g ≡ slotGain v (r .slot)
+    → isZero (times (r .scale) g) ≡ true → a ≡ cond (inSpan t l) (plainStep t f s x j l (x .route j) a) a
+plain-zero t f s x j l a {r} q e k z =
+    rw q (cond-same (inSpan t l) a ∙ ap (λ (y : Float). cond (inSpan t l) y a) (zero-step t f s x j l a r (scaled t r e k) z))
+
+takes : (on off : Bool) (new a : Float) → on ≡ true → off ≡ false → new ≡ cond (on && not off) new a
+takes on off new a e z = rw (e, z)
+
+added-step : (t : Env) (f : Rows) (s : Own) (x : Mix) (j l : ℕ) (a : Float) (r : Route) {y : Float} → plain t (x .voice) r ≡ true → scaledGain t r ≡ y → isZero y ≡ false
+    → plus a (times (rawIn t f s j l r) y) ≡ plainStep t f s x j l r a
+added-step t f s x j l a r p e z =
+    ap (λ (u : Float). plus a (times (rawIn t f s j l r) u)) (sym e) ∙ takes (plain t (x .voice) r) (isZero (scaledGain t r)) _ a p (ap isZero e ∙ z)
+
+pub plain-added : (t : Env) (f : Rows) (s s′ : Own) (x : Mix) (j l : ℕ) (a : Float) {r : Route} {b : Bool} {v : Gains} {g u : Float} → x .route j ≡ r → b ≡ plain t (x .voice) r
+    → not b ≡ false → t .gains ≡ v → g ≡ slotGain v (r .slot) → isZero (times (r .scale) g) ≡ false → rawIn t f s′ j l r ≡ rawIn t f s j l r
+    → u ≡ cond (inSpan t l) (plus a (times (rawIn t f s′ j l r) (times (r .scale) g))) a → u ≡ cond (inSpan t l) (plainStep t f s x j l (x .route j) a) a
+plain-added t f s s′ x j l a {r} {g = g} q p h e k z same out =
+    rw q
+    (out
+    ∙ ap (λ (y : Float). cond (inSpan t l) (plus a (times y (times (r .scale) g))) a) same
+    ∙ ap (λ (y : Float). cond (inSpan t l) y a) (added-step t f s x j l a r (was-true p h) (scaled t r e k) z))
+
+pub plains-none : (t : Env) (f : Rows) (s : Own) (x : Mix) (l : ℕ) → plus (baseIn t x) (offsets t x (x .count)) ≡ plains t f s x l 0
+unfolding plains
+plains-none t f s x l = refl
+
+plains-more : (t : Env) (f : Rows) (s : Own) (x : Mix) (l j : ℕ) → plainStep t f s x j l (x .route j) (plains t f s x l j) ≡ plains t f s x l (j + 1)
+unfolding plains
+plains-more t f s x l j = rw add-one
+
+pub plains-next : (t : Env) (f : Rows) (s : Own) (x : Mix) (l j : ℕ) (span : Bool) (a v u : Float) → v ≡ cond span (plains t f s x l j) a
+    → u ≡ cond span (plainStep t f s x j l (x .route j) v) v → u ≡ cond span (plains t f s x l (j + 1)) a
+plains-next t f s x l j true a v u e k = k ∙ ap (plainStep t f s x j l (x .route j)) e ∙ plains-more t f s x l j
+plains-next t f s x l j false a v u e k = k ∙ e
+
+pub span-start : (span : Bool) (a base o : Float) {p q v : Float} → v ≡ cond span (plus base o) a → base ≡ p → o ≡ q → v ≡ cond span (plus p q) a
+span-start span a base o {p = p} k e d = k ∙ ap (λ (z : Float). cond span (plus z o) a) e ∙ ap (λ (z : Float). cond span (plus p z) a) d
+
+-- ---- the others
+
+pub other-plain : (t : Env) (f : Rows) (s : Own) (x : Mix) (j l : ℕ) (a : Float) {r : Route} {b : Bool} → x .route j ≡ r → b ≡ plain t (x .voice) r → b ≡ true
+    → a ≡ otherStep t f s x j l (x .route j) a
+other-plain t f s x j l a q e h = rw (q, sym e ∙ h)
+
+pub other-idle : (t : Env) (f : Rows) (s : Own) (x : Mix) (j l : ℕ) (a : Float) {r : Route} {b d : Bool} → x .route j ≡ r → b ≡ plain t (x .voice) r → b ≡ false
+    → d ≡ idle t r → d ≡ true → a ≡ otherStep t f s x j l (x .route j) a
+other-idle t f s x j l a q e h i k = rw (q, sym e ∙ h, sym i ∙ k)
+
+same-lane : (t : Env) (f : Rows) (s s′ : Own) (j : ℕ) (r : Route) (a : Float) (z : Lane) → ((l : ℕ) → routeValue t f s′ j l r ≡ routeValue t f s j l r) → addLane t f s′ j r a z ≡ addLane t f s j r a z
+same-lane t f s s′ j r a (lane l) e = ap (plus a) (e l)
+same-lane t f s s′ j r a nowhere e = refl
+
+left : (on off : Bool) (a new : Float) → on ≡ false → off ≡ false → new ≡ cond (on || off) a new
+left on off a new e d = rw (e, d)
+
+pub other-added : (t : Env) (f : Rows) (s s′ : Own) (x : Mix) (j l : ℕ) (a : Float) {voice : Bool} {r : Route} {b d : Bool} {u : Float} → x .voice ≡ voice → x .route j ≡ r → b ≡ plain t (x .voice) r → b ≡ false
+    → d ≡ idle t r → d ≡ false → ((k : ℕ) → routeValue t f s′ j k r ≡ routeValue t f s j k r) → u ≡ addLane t f s′ j r a (addend t voice (r .voice) l)
+    → u ≡ otherStep t f s x j l (x .route j) a
+other-added t f s s′ x j l a {voice} {r} w q e h i k same out =
+    rw q
+    (out
+    ∙ same-lane t f s s′ j r a (addend t voice (r .voice) l) same
+    ∙ ap (λ (z : Bool). addLane t f s j r a (addend t z (r .voice) l)) (sym w)
+    ∙ left (plain t (x .voice) r) (idle t r) a _ (sym e ∙ h) (sym i ∙ k))
+
+pub others-none : (t : Env) (f : Rows) (s : Own) (x : Mix) (l : ℕ) (a : Float) → a ≡ others t f s x l a 0
+unfolding others
+others-none t f s x l a = refl
+
+others-more : (t : Env) (f : Rows) (s : Own) (x : Mix) (l : ℕ) (a : Float) (j : ℕ) → otherStep t f s x j l (x .route j) (others t f s x l a j) ≡ others t f s x l a (j + 1)
+unfolding others
+others-more t f s x l a j = rw add-one
+
+pub others-next : (t : Env) (f : Rows) (s : Own) (x : Mix) (l j : ℕ) (a v u : Float) → v ≡ others t f s x l a j → u ≡ otherStep t f s x j l (x .route j) v → u ≡ others t f s x l a (j + 1)
+others-next t f s x l j a v u e k = k ∙ ap (otherStep t f s x j l (x .route j)) e ∙ others-more t f s x l a j
+
+-- ---- the sum
+
+pub begun-bare : (t : Env) (f : Rows) (s : Own) (x : Mix) (l : ℕ) {b : Bool} {v base : Float} → b ≡ hasPlain t x → not b ≡ true → v ≡ base → base ≡ baseIn t x → v ≡ begun t f s x l
+begun-bare t f s x l e h k q = rw (was-false e h) (k ∙ q)
+
+pub begun-plain : (t : Env) (f : Rows) (s : Own) (x : Mix) (l : ℕ) {b : Bool} {v a base : Float} → b ≡ hasPlain t x → not b ≡ false → v ≡ cond (inSpan t l) (plains t f s x l (x .count)) a
+    → a ≡ base → base ≡ baseIn t x → v ≡ begun t f s x l
+begun-plain t f s x l e h k q p = rw (was-true e h) (k ∙ ap (λ (z : Float). cond (inSpan t l) (plains t f s x l (x .count)) z) (q ∙ p))
+
+pub audio-bare : (t : Env) (f : Rows) (s : Own) (x : Mix) (old : Float) (l : ℕ) {b : Bool} {v base : Float} → b ≡ hasPlain t x → not b ≡ true → v ≡ base → base ≡ baseIn t x
+    → v ≡ audioBegun t f s x old l
+audio-bare t f s x old l e h k q = rw (was-false e h) (k ∙ q)
+
+pub audio-plain : (t : Env) (f : Rows) (s : Own) (x : Mix) (old : Float) (l : ℕ) {b : Bool} {v : Float} → b ≡ hasPlain t x → not b ≡ false
+    → v ≡ cond (inSpan t l) (plains t f s x l (x .count)) old → v ≡ audioBegun t f s x old l
+audio-plain t f s x old l e h k = rw (was-true e h) k
+
+pub tick-of : (t : Env) (f : Rows) (s : Own) (x : Mix) (l : ℕ) {v a : Float} → v ≡ others t f s x l a (x .count) → a ≡ begun t f s x l → v ≡ tickSum t f s x l
+unfolding tickSum
+tick-of t f s x l k e = k ∙ ap (λ (z : Float). others t f s x l z (x .count)) e
+
+pub audio-of : (t : Env) (f : Rows) (s : Own) (x : Mix) (old : Float) (l : ℕ) {v a : Float} → v ≡ others t f s x l a (x .count) → a ≡ audioBegun t f s x old l → v ≡ audioSum t f s x old l
+unfolding audioSum
+audio-of t f s x old l k e = k ∙ ap (λ (z : Float). others t f s x l z (x .count)) e

@@ -1,0 +1,12 @@
+-- `sum::no_route` meets its contract.
+use lib.Ieee.{ofBits}
+use mathlib.Core.Path.{refl}
+use Rattle.sum.proofs.no_route.Statement.{statement}
+use Rattle.sum.proofs.no_route.Tie as tie
+
+returns : tie.Need-returns
+unfolding ofBits
+returns c = refl
+
+pub no-route-spec : {M : Type 1} → statement M
+no-route-spec = tie.close (tie.spec returns)
