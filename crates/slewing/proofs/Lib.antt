@@ -1,0 +1,6 @@
+pub mod Lanes
+pub mod Ticks
+pub mod Motions
+pub mod News
+pub mod Putting
+pub mod Scenes

@@ -1,0 +1,655 @@
+// The slews of a plan's routes after it was worked out, and a plan's new rows, put where they lie (engine.rs 843-935, 1326-1343, 1434-1446; document 01, Chunk and
+// value). The definitions are in model's specs/Tick and specs/Slews. A contract holds of every environment that has what the function is handed: specs/Seen says
+// what that is.
+ghost use mathlib.Core.Path.{_≡_};
+ghost use mathlib.Core.Bool.{false};
+ghost use Prim.Native.Nat.{ℕ, _+_, _*_, _≤_, _<_};
+ghost use lib.ListN.{length, set, getD};
+ghost use lib.Ieee.{Float, nan};
+ghost use Rattle.config.specs.Sizes.{slots};
+ghost use Rattle.number.specs.Number.{hold};
+ghost use Rattle.state.specs.declared.Route.{Route};
+ghost use Rattle.state.specs.declared.State.{State};
+ghost use Rattle.model.specs.Counts.{at};
+ghost use Rattle.model.specs.Env.{Env, Rows, Own, liveAmount, liveOutput};
+ghost use Rattle.model.specs.Lanes.{sounding, snapOf};
+ghost use Rattle.model.specs.Mix.{Mix};
+ghost use Rattle.model.specs.Routes.{freeSlew};
+ghost use Rattle.model.specs.Slews.{movesIn, sourceAfter, auxAfter};
+ghost use Rattle.model.specs.Tick.{fillFrom, lanesFrom, starting, kept, heldSum, newTo, newFrom, putSlews, slewAfter};
+ghost use Rattle.input.specs.Reads.{IsRows, planRows, partFor, pointOf};
+ghost use Rattle.route.specs.View.{mostValues, Placed, IsOwn, Viewed, ownRows};
+ghost use Rattle.slewing.specs.Rows.{IsRow};
+ghost use Rattle.slewing.specs.Seen.{Fits, Staged, Seen, IsMix, Into, Lies, Ticks, Moved};
+ghost use Rattle.slewing.specs.Put.{auxFree, still, newNeed, newStart, IsNew, putRoute, putNew, allStill};
+use config::SLOTS;
+use config::VOICES;
+use input::Scene;
+use route::View;
+use state::Aux;
+use state::Input;
+use state::Plan;
+use state::Route;
+use state::Signals;
+use voice::Voices;
+
+// ---- rows put where they lie
+
+// the number of a lane of the row that starts there, where the slice has it
+fn put_lane(values: &mut [f32], start: usize, lane: usize, x: f32)
+    ensures { λ _. ⌜ now (values .exit) ≡ set (now (values .entry)) (start + lane) x ⌝ }
+{
+    let len = values.len();
+    if len <= start {
+        return;
+    }
+    if len - start <= lane {
+        return;
+    }
+    let i = start + lane;
+    values[i] = x;
+}
+
+// The first n lanes of the row that starts at `start` become those that start at `at` in `from`; beyond the end of the slice nothing is written.
+pub fn put_part(values: &mut [f32], start: usize, from: &[f32], at: usize, n: usize)
+    ensures { λ _. ⌜ now (values .exit) ≡ fillFrom (now (values .entry)) start (lanesFrom (now (from .entry)) at) n ⌝ }
+{
+    let mut l = 0usize;
+    while l < n {
+        put_lane(values, start, l, input::lane_from(from, at, l));
+        l += 1;
+    }
+}
+
+// The first n lanes of the row that starts there become those of `row`.
+pub fn put_row(values: &mut [f32], start: usize, row: [f32; VOICES], n: usize)
+    ensures { λ _. ⌜ now (values .exit) ≡ fillFrom (now (values .entry)) start (λ (l : ℕ). getD row l nan) n ⌝ }
+{
+    put_part(values, start, &row, 0, n);
+}
+
+// ---- new numbers of a plan
+
+// The first n lanes, held to the bounds.
+pub fn hold_row(row: [f32; VOICES], min: f32, max: f32, n: usize) -> [f32; VOICES]
+    requires { ⌜ n ≤ 64 ⌝ }
+    ensures { λ r. ⌜ IsRow n (λ (l : ℕ). hold min max (getD row l nan)) r ⌝ }
+{
+    let mut out = [0.0; VOICES];
+    let mut l = 0usize;
+    while l < n {
+        let x = row[l];
+        out[l] = number::held(min, max, x);
+        l += 1;
+    }
+    out
+}
+
+// whether a voice started since the last block
+fn fresh_at(fresh: [bool; VOICES], lane: usize) -> bool
+    ensures { λ r. ⌜ r ≡ getD fresh lane false ⌝ }
+{
+    if lane < VOICES {
+        return fresh[lane];
+    }
+    false
+}
+
+// Whether a lane is of a voice that started since the last block, in its first chunk.
+pub fn starting(snap: bool, voice: bool, fresh: [bool; VOICES], lane: usize) -> bool
+    ensures { λ r. ⌜ ((t : Env) (x : Mix) → t .snap ≡ snap → t .fresh ≡ fresh → x .voice ≡ voice → r ≡ starting t x lane) ⌝ }
+{
+    if !snap {
+        return false;
+    }
+    if !voice {
+        return false;
+    }
+    fresh_at(fresh, lane)
+}
+
+// Whether a lane keeps its number, by whether a voice starts there.
+pub fn kept(phase: usize, primed: bool, starts: bool) -> bool
+    ensures { λ r. ⌜ ((t : Env) (x : Mix) (l : ℕ) → t .primed ≡ primed → starts ≡ starting t x l → r ≡ kept t phase x l) ⌝ }
+{
+    if phase == 0 {
+        return false;
+    }
+    if !primed {
+        return false;
+    }
+    !starts
+}
+
+// What a tick's new numbers go by, besides the sums: the phase, the plan's scope, and of the scene the voices that start.
+pub struct Tick {
+    pub phase: usize,
+    pub voice: bool,
+    pub primed: bool,
+    pub snap: bool,
+    pub fresh: [bool; VOICES],
+}
+
+// The tick of a scene.
+pub fn tick_of(scene: Scene, phase: usize, voice: bool) -> Tick
+    ensures { λ r. ⌜ r ≡ record { phase = phase; voice = voice; primed = scene .primed; snap = scene .snap; fresh = scene .fresh } ⌝ }
+{
+    let fresh = scene.fresh;
+    Tick {
+        phase,
+        voice,
+        primed: scene.primed,
+        snap: scene.snap,
+        fresh,
+    }
+}
+
+// the new number in a lane, of the held sum and the number before
+fn to_lane(tick: Tick, sum: f32, old: f32, lane: usize) -> f32
+    ensures { λ r. ⌜ ((t : Env) (x : Mix) (f : Rows) (s : Own) (o : ℕ → Float) → Ticks t x tick → sum ≡ heldSum t f s x lane → old ≡ o lane → r ≡ newTo t (tick .phase) x f s o lane) ⌝ }
+{
+    let fresh = tick.fresh;
+    let starts = starting(tick.snap, tick.voice, fresh, lane);
+    if kept(tick.phase, tick.primed, starts) {
+        return old;
+    }
+    sum
+}
+
+// where the ramp starts in a lane, of the held sum, the number before and where it started before
+fn from_lane(tick: Tick, sum: f32, old: f32, from: f32, lane: usize) -> f32
+    ensures { λ r. ⌜ ((t : Env) (x : Mix) (f : Rows) (s : Own) (o a : ℕ → Float) → Ticks t x tick → sum ≡ heldSum t f s x lane → old ≡ o lane → from ≡ a lane → r ≡ newFrom t (tick .phase) x f s o a lane) ⌝ }
+{
+    let fresh = tick.fresh;
+    let starts = starting(tick.snap, tick.voice, fresh, lane);
+    if kept(tick.phase, tick.primed, starts) {
+        return from;
+    }
+    if starts {
+        return sum;
+    }
+    if !tick.primed {
+        return sum;
+    }
+    old
+}
+
+// The new numbers of a plan in its first n lanes: of the held sums, and of the numbers that start at `start`.
+pub fn to_row(
+    tick: Tick,
+    sums: [f32; VOICES],
+    values: &[f32],
+    start: usize,
+    n: usize,
+) -> [f32; VOICES]
+    requires { ⌜ n ≤ 64 ⌝ }
+    ensures { λ r. ⌜ ((t : Env) (x : Mix) (f : Rows) (s : Own) → Ticks t x tick → IsRow n (heldSum t f s x) sums → IsRow n (newTo t (tick .phase) x f s (lanesFrom (now (values .entry)) start)) r) ⌝ }
+{
+    let mut out = [0.0; VOICES];
+    let mut l = 0usize;
+    while l < n {
+        let sum = sums[l];
+        out[l] = to_lane(tick, sum, input::lane_from(values, start, l), l);
+        l += 1;
+    }
+    out
+}
+
+// Where the ramps of a plan start in its first n lanes: of the held sums, the numbers that start at `start`, and the starts before, at `from`.
+pub fn from_row(
+    tick: Tick,
+    sums: [f32; VOICES],
+    values: &[f32],
+    start: usize,
+    from: usize,
+    n: usize,
+) -> [f32; VOICES]
+    requires { ⌜ n ≤ 64 ⌝ }
+    ensures { λ r. ⌜ ((t : Env) (x : Mix) (f : Rows) (s : Own) → Ticks t x tick → IsRow n (heldSum t f s x) sums → IsRow n (newFrom t (tick .phase) x f s (lanesFrom (now (values .entry)) start) (lanesFrom (now (values .entry)) from)) r) ⌝ }
+{
+    let mut out = [0.0; VOICES];
+    let mut l = 0usize;
+    while l < n {
+        let sum = sums[l];
+        let old = input::lane_from(values, start, l);
+        out[l] = from_lane(tick, sum, old, input::lane_from(values, from, l), l);
+        l += 1;
+    }
+    out
+}
+
+// ---- new slews of a route
+
+// What says in which lanes a route's slews move, and which of them end at their input.
+pub struct Motion {
+    pub voices: Voices,
+    pub fresh: [bool; VOICES],
+    pub snap: bool,
+    pub voice: bool,
+    pub plain: bool,
+    pub idle: bool,
+}
+
+// The motion of a route into a plan, by whether that is per voice and whether a voice is active.
+pub fn motion_of(scene: Scene, view: View, route: Route, voice: bool, sounds: bool) -> Motion
+    ensures { λ r. ⌜ ((t : Env) (x : Mix) → Staged t scene → x .voice ≡ voice → sounds ≡ sounding t → partFor (t .signals) (route .source .read) ≡ view .source → liveAmount t (route .slot) ≡ view .amount → liveOutput t (route .slot) ≡ view .output → Moved t x route r) ⌝ }
+{
+    let voices = scene.voices;
+    let fresh = scene.fresh;
+    let part = view.source;
+    let plain = route::plain(voice, sounds, route, part, scene.stride, scene.up_to);
+    let idle = route::idle(route, view.amount, view.output);
+    Motion {
+        voices,
+        fresh,
+        snap: scene.snap,
+        voice,
+        plain,
+        idle,
+    }
+}
+
+// whether a route's slews move in a lane
+fn moves(motion: Motion, voice: bool, lane: usize) -> bool
+    ensures { λ r. ⌜ ((t : Env) (x : Mix) (u : Route) → u .voice ≡ voice → Moved t x u motion → r ≡ movesIn t x u lane) ⌝ }
+{
+    let voices = motion.voices;
+    let worked = input::worked(voices, motion.voice, voice, lane);
+    route::moves_in(motion.plain, motion.idle, worked)
+}
+
+// 1 where they end at their input
+fn snap(motion: Motion, voice: bool, lane: usize) -> f32
+    ensures { λ r. ⌜ ((t : Env) → t .snap ≡ motion .snap → t .fresh ≡ motion .fresh → r ≡ snapOf t voice lane) ⌝ }
+{
+    let fresh = motion.fresh;
+    input::snap_of(motion.snap, fresh, voice, lane)
+}
+
+// The slew of a route's source afterwards, in each lane.
+pub fn source_row(
+    route: Route,
+    view: View,
+    motion: Motion,
+    held: &[f32],
+    globals: &[f32],
+    tables: &[f32],
+    samples: &[f32],
+    values: &[f32],
+) -> [f32; VOICES]
+    requires { ⌜ Placed view ⌝ }
+    ensures { λ r. ⌜ ((t : Env) (x : Mix) (f : Rows) (s : Own) (j : ℕ) → Viewed t f s j view route (now (held .entry)) (now (globals .entry)) (now (tables .entry)) (now (samples .entry)) (now (values .entry)) → x .route j ≡ route → Moved t x route motion → IsRow (view .point .stride) (sourceAfter t x f s j) r) ⌝ }
+{
+    let n = view.point.stride;
+    let voice = route.voice;
+    let mut out = [0.0; VOICES];
+    let mut l = 0usize;
+    while l < n {
+        let m = moves(motion, voice, l);
+        let e = snap(motion, voice, l);
+        out[l] = route::source_after(route, view, m, e, l, held, globals, tables, samples, values);
+        l += 1;
+    }
+    out
+}
+
+// The slew of its aux.
+pub fn aux_row(
+    route: Route,
+    view: View,
+    motion: Motion,
+    held: &[f32],
+    globals: &[f32],
+    tables: &[f32],
+    samples: &[f32],
+    values: &[f32],
+) -> [f32; VOICES]
+    requires { ⌜ Placed view ⌝ }
+    ensures { λ r. ⌜ ((t : Env) (x : Mix) (f : Rows) (s : Own) (j : ℕ) → Viewed t f s j view route (now (held .entry)) (now (globals .entry)) (now (tables .entry)) (now (samples .entry)) (now (values .entry)) → x .route j ≡ route → Moved t x route motion → IsRow (view .point .stride) (auxAfter t x f s j) r) ⌝ }
+{
+    let n = view.point.stride;
+    let voice = route.voice;
+    let mut out = [0.0; VOICES];
+    let mut l = 0usize;
+    while l < n {
+        let m = moves(motion, voice, l);
+        let e = snap(motion, voice, l);
+        out[l] = route::aux_after(route, view, m, e, l, held, globals, tables, samples, values);
+        l += 1;
+    }
+    out
+}
+
+// ---- new slews of a plan
+
+// The numbers that the new slews of 64 routes take: two rows of 64 for each.
+pub const NEW: usize = 8192;
+
+// whether an aux, where there is one, has no slew
+fn aux_free(aux: Aux) -> bool
+    ensures { λ r. ⌜ r ≡ auxFree aux ⌝ }
+{
+    match aux {
+        Aux::Missing => true,
+        Aux::With(i) => input_free(i),
+    }
+}
+
+fn input_free(input: Input) -> bool
+    ensures { λ r. ⌜ r ≡ freeSlew (input .slew) ⌝ }
+{
+    let slew = input.slew;
+    route::free_slew(slew)
+}
+
+// Whether a route has no slew.
+pub fn still(route: Route) -> bool
+    ensures { λ r. ⌜ r ≡ still route ⌝ }
+{
+    let source = route.source;
+    let aux = route.aux;
+    if !input_free(source) {
+        return false;
+    }
+    aux_free(aux)
+}
+
+// the new slews of route j of a plan into their places; the places of the routes before it stay as they are
+fn new_route(
+    new: &mut [f32],
+    j: usize,
+    route: Route,
+    view: View,
+    motion: Motion,
+    held: &[f32],
+    globals: &[f32],
+    tables: &[f32],
+    samples: &[f32],
+    values: &[f32],
+)
+    requires { ⌜ Placed view × (j < slots) × (length (now new) ≡ newNeed) ⌝ }
+    ensures { λ _. ⌜ (length (now (new .exit)) ≡ newNeed) × ((p : ℕ) → p < newStart j 0 → at (now (new .exit)) p ≡ at (now (new .entry)) p) × ((t : Env) (x : Mix) (f : Rows) (s : Own) → Viewed t f s j view route (now (held .entry)) (now (globals .entry)) (now (tables .entry)) (now (samples .entry)) (now (values .entry)) → x .route j ≡ route → Moved t x route motion → IsNew t x f s j route (now (new .exit))) ⌝ }
+{
+    let start = j * 128;
+    let source = source_row(route, view, motion, held, globals, tables, samples, values);
+    put_row(new, start, source, VOICES);
+    let aux = aux_row(route, view, motion, held, globals, tables, samples, values);
+    put_row(new, start + 64, aux, VOICES);
+}
+
+// What the slews of a plan's routes are worked out from, besides the lent numbers: the scene, the signals and the sizes, whether the plan is per voice, and whether a
+// voice is active.
+pub struct Stage {
+    pub scene: Scene,
+    pub signals: Signals,
+    pub chunks: usize,
+    pub plans: usize,
+    pub voice: bool,
+    pub sounds: bool,
+}
+
+// the new slews of route j, whose own rows start at `own`, where it has any
+fn new_at(
+    new: &mut [f32],
+    j: usize,
+    own: usize,
+    route: Route,
+    stage: Stage,
+    held: &[f32],
+    globals: &[f32],
+    tables: &[f32],
+    samples: &[f32],
+    values: &[f32],
+)
+    requires { ⌜ Fits (stage .scene) (stage .chunks) (stage .plans) × (own ≤ mostValues) × (j < slots) × (length (now new) ≡ newNeed) ⌝ }
+    ensures { λ _. ⌜ (length (now (new .exit)) ≡ newNeed) × ((p : ℕ) → p < newStart j 0 → at (now (new .exit)) p ≡ at (now (new .entry)) p) × ((t : Env) (x : Mix) (f : Rows) (s : Own) → Seen t (stage .scene) (stage .signals) (now (held .entry)) (now (globals .entry)) (now (tables .entry)) (now (samples .entry)) → IsRows f (pointOf (stage .scene) (stage .chunks)) (now (values .entry)) → IsOwn s j own (stage .scene .stride) (now (values .entry)) → x .route j ≡ route → x .voice ≡ stage .voice → stage .sounds ≡ sounding t → IsNew t x f s j route (now (new .exit))) ⌝ }
+{
+    if still(route) {
+        return;
+    }
+    let scene = stage.scene;
+    let signals = stage.signals;
+    let view = route::view_of(scene, signals, stage.chunks, own, route);
+    let motion = motion_of(scene, view, route, stage.voice, stage.sounds);
+    new_route(
+        new,
+        j,
+        route,
+        view,
+        motion,
+        held,
+        globals,
+        tables,
+        samples,
+        values,
+    );
+}
+
+// the new slews of the first n routes of a plan whose first route is `first`
+fn new_slews(
+    new: &mut [f32],
+    n: usize,
+    first: usize,
+    routes: [Route; SLOTS],
+    stage: Stage,
+    held: &[f32],
+    globals: &[f32],
+    tables: &[f32],
+    samples: &[f32],
+    values: &[f32],
+)
+    requires { ⌜ Fits (stage .scene) (stage .chunks) (stage .plans) × (first + n ≤ slots) × (length (now new) ≡ newNeed) ⌝ }
+    ensures { λ _. ⌜ ((t : Env) (x : Mix) → Seen t (stage .scene) (stage .signals) (now (held .entry)) (now (globals .entry)) (now (tables .entry)) (now (samples .entry)) → Into t x stage routes first → n ≤ x .count → (j : ℕ) → j < n → IsNew t x (planRows (stage .scene .stride) (stage .chunks) (now (values .entry))) (ownRows (stage .scene .stride) (stage .chunks) (stage .plans) first (now (values .entry))) j (x .route j) (now (new .exit))) ⌝ }
+{
+    let stride = stage.scene.stride;
+    let mut j = 0usize;
+    while j < n {
+        let k = first + j;
+        let route = routes[k];
+        let own = route::own_start(stride, stage.chunks, stage.plans, k);
+        new_at(
+            new,
+            j,
+            own,
+            route,
+            stage,
+            held,
+            globals,
+            tables,
+            samples,
+            values,
+        );
+        j += 1;
+    }
+}
+
+// ---- slews put where they lie
+
+// the new slews of route j, whose own rows start at `own`, where it has any
+fn put_route(values: &mut [f32], stride: usize, route: Route, own: usize, new: &[f32], j: usize)
+    requires { ⌜ (stride ≤ 64) × (own ≤ mostValues) × (j < slots) ⌝ }
+    ensures { λ _. ⌜ now (values .exit) ≡ putRoute stride route own (now (new .entry)) j (now (values .entry)) ⌝ }
+{
+    if still(route) {
+        return;
+    }
+    let from = j * 128;
+    put_part(values, own, new, from, stride);
+    put_part(values, own + stride, new, from + 64, stride);
+}
+
+// those of the first n routes of a plan whose first route is `first`
+fn put_new(
+    values: &mut [f32],
+    stride: usize,
+    chunks: usize,
+    plans: usize,
+    first: usize,
+    routes: [Route; SLOTS],
+    new: &[f32],
+    n: usize,
+)
+    requires { ⌜ (stride ≤ 64) × (chunks ≤ 130) × (plans ≤ slots) × (first + n ≤ slots) ⌝ }
+    ensures { λ _. ⌜ now (values .exit) ≡ putNew stride chunks plans first routes (now (new .entry)) n (now (values .entry)) ⌝ }
+{
+    let mut j = 0usize;
+    while j < n {
+        let k = first + j;
+        let route = routes[k];
+        let own = route::own_start(stride, chunks, plans, k);
+        put_route(values, stride, route, own, new, j);
+        j += 1;
+    }
+}
+
+// whether none of n routes from `first` on has a slew
+fn all_still(routes: [Route; SLOTS], first: usize, n: usize) -> bool
+    requires { ⌜ first + n ≤ slots ⌝ }
+    ensures { λ r. ⌜ r ≡ allStill routes first n ⌝ }
+{
+    let mut j = 0usize;
+    while j < n {
+        let k = first + j;
+        let route = routes[k];
+        if !still(route) {
+            return false;
+        }
+        j += 1;
+    }
+    true
+}
+
+// how many of a plan's routes there are, where its first is there
+fn routes_there(first: usize, count: usize) -> usize
+    requires { ⌜ first < slots ⌝ }
+    ensures { λ r. ⌜ (r ≤ count) × (first + r ≤ slots) × ((j : ℕ) → r ≤ j → j < count → slots ≤ first + j) ⌝ }
+{
+    let left = SLOTS - first;
+    if left < count {
+        return left;
+    }
+    count
+}
+
+// room for the new slews
+fn room() -> [f32; NEW]
+    ensures { λ r. ⌜ length r ≡ newNeed ⌝ }
+{
+    [0.0; NEW]
+}
+
+// the slews of the first n routes of a plan whose first route is `first`
+fn put_all(
+    values: &mut [f32],
+    n: usize,
+    first: usize,
+    routes: [Route; SLOTS],
+    stage: Stage,
+    held: &[f32],
+    globals: &[f32],
+    tables: &[f32],
+    samples: &[f32],
+)
+    requires { ⌜ Fits (stage .scene) (stage .chunks) (stage .plans) × (first + n ≤ slots) ⌝ }
+    ensures { λ _. ⌜ ((t : Env) (x : Mix) (st : State) (d : ℕ) → Seen t (stage .scene) (stage .signals) (now (held .entry)) (now (globals .entry)) (now (tables .entry)) (now (samples .entry)) → Into t x stage routes first → n ≤ x .count → ((j : ℕ) → n ≤ j → j < x .count → slots ≤ first + j) → Lies st d (stage .scene .stride) (stage .chunks) (stage .plans) first → now (values .exit) ≡ putSlews st d (slewAfter t x (planRows (stage .scene .stride) (stage .chunks) (now (values .entry))) (ownRows (stage .scene .stride) (stage .chunks) (stage .plans) first (now (values .entry)))) (x .count) (now (values .entry))) ⌝ }
+{
+    let stride = stage.scene.stride;
+    let mut new = room();
+    new_slews(
+        &mut new,
+        n,
+        first,
+        routes,
+        stage,
+        held,
+        globals,
+        tables,
+        samples,
+        values,
+    );
+    put_new(
+        values,
+        stride,
+        stage.chunks,
+        stage.plans,
+        first,
+        routes,
+        &new,
+        n,
+    );
+}
+
+// the slews of `count` routes from `first` on, where there are such and one has a slew
+fn put_there(
+    values: &mut [f32],
+    first: usize,
+    count: usize,
+    routes: [Route; SLOTS],
+    stage: Stage,
+    held: &[f32],
+    globals: &[f32],
+    tables: &[f32],
+    samples: &[f32],
+)
+    requires { ⌜ Fits (stage .scene) (stage .chunks) (stage .plans) ⌝ }
+    ensures { λ _. ⌜ ((t : Env) (x : Mix) (st : State) (d : ℕ) → Seen t (stage .scene) (stage .signals) (now (held .entry)) (now (globals .entry)) (now (tables .entry)) (now (samples .entry)) → Into t x stage routes first → x .count ≡ count → Lies st d (stage .scene .stride) (stage .chunks) (stage .plans) first → now (values .exit) ≡ putSlews st d (slewAfter t x (planRows (stage .scene .stride) (stage .chunks) (now (values .entry))) (ownRows (stage .scene .stride) (stage .chunks) (stage .plans) first (now (values .entry)))) (x .count) (now (values .entry))) ⌝ }
+{
+    if SLOTS <= first {
+        return;
+    }
+    let n = routes_there(first, count);
+    if all_still(routes, first, n) {
+        return;
+    }
+    put_all(
+        values,
+        n,
+        first,
+        routes,
+        stage,
+        held,
+        globals,
+        tables,
+        samples,
+    );
+}
+
+// The slews of a plan's routes as they are after the plan was worked out from the values as they stand.
+pub fn put_slews(
+    values: &mut [f32],
+    plan: Plan,
+    routes: [Route; SLOTS],
+    scene: Scene,
+    signals: Signals,
+    chunks: usize,
+    plans: usize,
+    held: &[f32],
+    globals: &[f32],
+    tables: &[f32],
+    samples: &[f32],
+)
+    requires { ⌜ Fits scene chunks plans ⌝ }
+    ensures { λ _. ⌜ ((t : Env) (x : Mix) (st : State) (d : ℕ) → Seen t scene signals (now (held .entry)) (now (globals .entry)) (now (tables .entry)) (now (samples .entry)) → IsMix x plan routes → Lies st d (scene .stride) chunks plans (plan .first) → now (values .exit) ≡ putSlews st d (slewAfter t x (planRows (scene .stride) chunks (now (values .entry))) (ownRows (scene .stride) chunks plans (plan .first) (now (values .entry)))) (x .count) (now (values .entry))) ⌝ }
+{
+    let active = scene.voices.active;
+    let sounds = input::sounding(active, scene.stride);
+    let stage = Stage {
+        scene,
+        signals,
+        chunks,
+        plans,
+        voice: plan.voice,
+        sounds,
+    };
+    put_there(
+        values,
+        plan.first,
+        plan.count,
+        routes,
+        stage,
+        held,
+        globals,
+        tables,
+        samples,
+    );
+}

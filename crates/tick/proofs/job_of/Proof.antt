@@ -1,0 +1,28 @@
+-- `tick::job_of` meets its contract.
+use borrow.Author.Needs.{needs}
+use mathlib.Core.Path.{_≡_}
+use native.Mathlib.Omega.{arith}
+use lib.ListN.{length}
+use Rattle.list.proofs.Elements.{getD-inside, length-mapped}
+use Rattle.filled.specs.Filled.{noPlan}
+use Rattle.tick.proofs.Turned.{job-made}
+use Rattle.tick.proofs.job_of.Statement.{statement}
+use Rattle.tick.proofs.job_of.Tie as tie
+
+mul-p : tie.Need-mul-p
+mul-p c = search needs
+
+array-copy-out-p : tie.Need-array-copy-out-p
+array-copy-out-p c = search needs
+
+returns : tie.Need-returns
+returns c = let a = c .before .args in
+    let fits = c .before .pre .0 in
+    let long : length (a .t1) ≡ 64 = search (needs, length-mapped) in (
+      job-made (a .t1) (a .d) (a .routes) (a .scene) (a .signals) (a .chunks) (a .plans) (getD-inside (a .t1) (a .d) _ noPlan (omega (arith, c .before .pre))),
+      record { stride = fits .stride; chunks = fits .chunks; plans = fits .plans },
+      c .before .pre .1,
+    )
+
+pub job-of-spec : {M : Type 1} → statement M
+job-of-spec = tie.close (tie.spec mul-p array-copy-out-p returns)
