@@ -1,0 +1,4 @@
+pub mod Numbers
+pub mod Parts
+pub mod Jobs
+pub mod Chunk

@@ -1,0 +1,36 @@
+-- `sound::frame` meets its contract.
+use borrow.Author.Needs.{needs}
+use Rattle.sound.proofs.Chunk.{frame-done}
+use Rattle.sound.proofs.frame.Statement.{statement}
+use Rattle.sound.proofs.frame.Tie as tie
+
+lane-count-requires : tie.Need-lane-count-requires
+lane-count-requires c κs = search needs
+
+old-row-requires : tie.Need-old-row-requires
+old-row-requires c κs = search needs
+
+new-row-requires : tie.Need-new-row-requires
+new-row-requires c κs = search needs
+
+put-slews-requires : tie.Need-put-slews-requires
+put-slews-requires c κs = search needs
+
+put-row-requires : tie.Need-put-row-requires
+put-row-requires c κs = search needs
+
+same-length : tie.Need-same-length
+same-length c = search needs
+
+same-length-2 : tie.Need-same-length-2
+same-length-2 c = search needs
+
+returns : tie.Need-returns
+returns c =
+    let a = c .before .before .before .before .before .before .before .before .before .before .before .before .before .before .before .before .before .before .before .before .before .before .before .before .args in
+    λ st d o.
+    frame-done st d (a .job) o (a .held .now) (a .globals .now) (a .bases .now) (a .tables .now) (a .samples .now) (a .start) (c .before .before .before .before .before .before .before .before .before .before .before .before .lane-count .result) (a .values .now) (a .audio .now) (c .before .before .before .before .before .before .put-slews .last .0) (c .before .before .put-row .last .0) (c .before .before .before .before .before .before .before .before .before .before .old-row .result) (c .before .before .before .before .before .before .before .before .new-row .result)
+    (c .before .before .before .before .before .before .before .before .before .before .before .before .lane-count .ensures .0) (c .before .before .before .before .before .before .before .before .before .before .old-row .ensures) (c .before .before .before .before .before .before .before .before .new-row .ensures) (c .before .before .before .before .before .before .put-slews .ensures) (c .before .before .put-row .ensures)
+
+pub frame-spec : {M : Type 1} → statement M
+frame-spec = tie.close (tie.spec lane-count-requires old-row-requires new-row-requires put-slews-requires put-row-requires same-length same-length-2 returns)

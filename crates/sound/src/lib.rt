@@ -1,0 +1,397 @@
+// The audio rows of a chunk: plan after plan, frame after frame, the slews moving by one sample (engine.rs 940-1006, 1224-1294; document 01, Chunk and value). The
+// definitions are in model's specs/Audio. A contract holds of every state that has what the function is handed: specs/Rows and specs/Work say what that is.
+ghost use mathlib.Core.Path.{_≡_};
+ghost use mathlib.Core.Bool.{true, false, not, cond, _&&_, _||_};
+ghost use Prim.Native.Nat.{ℕ, _+_, _*_, _≤_, _<_};
+ghost use lib.Dec.{eqb};
+ghost use lib.ListN.{length, getD};
+ghost use lib.Ieee.{Float, inf, lt};
+ghost use Rattle.config.specs.Sizes.{slots, mostVoices};
+ghost use Rattle.number.specs.Number.{hold};
+ghost use Rattle.filled.specs.Filled.{noPlan};
+ghost use Rattle.state.specs.declared.State.{State};
+ghost use Rattle.model.specs.Audio.{wholePlain, newAudio, audioFrames, audioOf};
+ghost use Rattle.model.specs.Counts.{at};
+ghost use Rattle.model.specs.Env.{Env, Rows, Own};
+ghost use Rattle.model.specs.Lanes.{inSpan};
+ghost use Rattle.model.specs.Layout.{audioRow};
+ghost use Rattle.model.specs.Mix.{Mix};
+ghost use Rattle.model.specs.Tick.{lanesFrom};
+ghost use Rattle.slewing.specs.Rows.{IsRow};
+ghost use Rattle.sum.specs.Job.{Bounded, laneCount, IsScene, IsJob, Sums};
+ghost use Rattle.sound.specs.Rows.{sounds, sceneAt, jobAt, jobEnv, Of, rowFrame, rowFrames};
+ghost use Rattle.sound.specs.Work.{Sized, audioRoom, Installed, jobOf, workEnv};
+use config::SLOTS;
+use config::VOICES;
+use input::Scene;
+use state::Chunk;
+use state::Plan;
+use state::Route;
+use state::Signals;
+use sum::Job;
+
+// ---- one row
+
+// The scene at a frame of a chunk that ends at `end`: slews move by one sample.
+pub fn scene_at(scene: Scene, frame: usize, end: usize, snap: bool) -> Scene
+    ensures { λ r. ⌜ r ≡ sceneAt scene frame end snap ⌝ }
+{
+    let voices = scene.voices;
+    let fresh = scene.fresh;
+    let gains = scene.gains;
+    Scene {
+        stride: scene.stride,
+        voices,
+        fresh,
+        gains,
+        primed: scene.primed,
+        frame,
+        up_to: end,
+        steps: 1.0,
+        snap,
+    }
+}
+
+// The first n lanes of the row that starts there.
+pub fn old_row(audio: &[f32], start: usize, n: usize) -> [f32; VOICES]
+    requires { ⌜ n ≤ 64 ⌝ }
+    ensures { λ r. ⌜ IsRow n (lanesFrom (now (audio .entry)) start) r ⌝ }
+{
+    let mut out = [0.0; VOICES];
+    let mut l = 0usize;
+    while l < n {
+        out[l] = input::lane_from(audio, start, l);
+        l += 1;
+    }
+    out
+}
+
+fn infinity() -> f32
+    ensures { λ r. ⌜ r ≡ inf false ⌝ }
+{
+    let one = 1.0f32;
+    one / 0.0
+}
+
+fn minus_infinity() -> f32
+    ensures { λ r. ⌜ r ≡ inf true ⌝ }
+{
+    let one = -1.0f32;
+    one / 0.0
+}
+
+// whether one of the bounds is no infinity that holds nothing
+fn bounded(min: f32, max: f32) -> bool
+    ensures { λ r. ⌜ r ≡ (lt (inf true) min || lt max (inf false)) ⌝ }
+{
+    let low = minus_infinity();
+    if low < min {
+        return true;
+    }
+    let high = infinity();
+    max < high
+}
+
+// whether every route is plain, and there are some
+fn whole_plain(job: Job) -> bool
+    ensures { λ r. ⌜ ((t : Env) (x : Mix) → IsJob t x job → r ≡ wholePlain t x) ⌝ }
+{
+    if !sum::some_plain(job) {
+        return false;
+    }
+    sum::all_plain(job)
+}
+
+// x held to the bounds; where every route is plain, only in the active span
+fn hold_lane(job: Job, whole: bool, lane: usize, x: f32) -> f32
+    requires { ⌜ lane < mostVoices ⌝ }
+    ensures { λ r. ⌜ ((t : Env) → IsScene t (job .scene) (job .signals) → r ≡ cond (not whole || inSpan t lane) (hold (job .plan .min) (job .plan .max) x) x) ⌝ }
+{
+    let plan = job.plan;
+    if !whole {
+        return number::held(plan.min, plan.max, x);
+    }
+    let scene = job.scene;
+    let voices = scene.voices;
+    let active = voices.active;
+    if input::in_span(active, scene.stride, lane) {
+        return number::held(plan.min, plan.max, x);
+    }
+    x
+}
+
+// each lane of the row so
+fn hold_lanes(job: Job, whole: bool, row: [f32; VOICES]) -> [f32; VOICES]
+    requires { ⌜ Bounded job ⌝ }
+    ensures { λ r. ⌜ ((t : Env) → IsScene t (job .scene) (job .signals) → (l : ℕ) → l < laneCount job → at r l ≡ cond (not whole || inSpan t l) (hold (job .plan .min) (job .plan .max) (at row l)) (at row l)) ⌝ }
+{
+    let n = sum::lane_count(job);
+    let mut out = row;
+    let mut l = 0usize;
+    while l < n {
+        let a = out[l];
+        out[l] = hold_lane(job, whole, l, a);
+        l += 1;
+    }
+    out
+}
+
+// The numbers of a destination at a frame, in each lane of its row, where `old` stands there.
+pub fn new_row(
+    job: Job,
+    old: [f32; VOICES],
+    held: &[f32],
+    globals: &[f32],
+    bases: &[f32],
+    tables: &[f32],
+    samples: &[f32],
+    values: &[f32],
+) -> [f32; VOICES]
+    requires { ⌜ Bounded job ⌝ }
+    ensures { λ r. ⌜ ((t : Env) (f : Rows) (s : Own) (x : Mix) (o : ℕ → Float) → Sums t f s x job (now (held .entry)) (now (globals .entry)) (now (bases .entry)) (now (tables .entry)) (now (samples .entry)) (now (values .entry)) → IsRow (laneCount job) o old → IsRow (laneCount job) (newAudio t x f s o) r) ⌝ }
+{
+    let row = sum::audio_row(job, old, held, globals, bases, tables, samples, values);
+    let plan = job.plan;
+    if !bounded(plan.min, plan.max) {
+        return row;
+    }
+    let whole = whole_plain(job);
+    hold_lanes(job, whole, row)
+}
+
+// ---- one frame
+
+// The row of a plan at a frame, which starts there, and the plan's slews.
+pub fn frame(
+    values: &mut [f32],
+    audio: &mut [f32],
+    job: Job,
+    start: usize,
+    held: &[f32],
+    globals: &[f32],
+    bases: &[f32],
+    tables: &[f32],
+    samples: &[f32],
+)
+    requires { ⌜ Bounded job ⌝ }
+    ensures { λ _. ⌜ ((st : State) (d : ℕ) → Of st d job → sounds (now (values .exit)) (now (audio .exit)) ≡ rowFrame st (jobEnv job (now (held .entry)) (now (globals .entry)) (now (bases .entry)) (now (tables .entry)) (now (samples .entry))) d start (sounds (now (values .entry)) (now (audio .entry)))) ⌝ }
+{
+    let plan = job.plan;
+    let routes = job.routes;
+    let scene = job.scene;
+    let signals = job.signals;
+    let n = sum::lane_count(job);
+    let old = old_row(audio, start, n);
+    let row = new_row(job, old, held, globals, bases, tables, samples, values);
+    slewing::put_slews(
+        values,
+        plan,
+        routes,
+        scene,
+        signals,
+        job.chunks,
+        job.plans,
+        held,
+        globals,
+        tables,
+        samples,
+    );
+    slewing::put_row(audio, start, row, n);
+}
+
+// ---- the frames of a chunk
+
+// whether fresh lanes snap at frame n of a chunk
+fn snaps(snap: bool, n: usize) -> bool
+    ensures { λ r. ⌜ r ≡ (snap && eqb n 0) ⌝ }
+{
+    if !snap {
+        return false;
+    }
+    n == 0
+}
+
+// The job at frame n of a chunk.
+pub fn job_at(job: Job, chunk: Chunk, n: usize) -> Job
+    requires { ⌜ (chunk .start + chunk .len ≤ 4096) × (n ≤ chunk .len) ⌝ }
+    ensures { λ r. ⌜ r ≡ jobAt job chunk n ⌝ }
+{
+    let plan = job.plan;
+    let routes = job.routes;
+    let before = job.scene;
+    let signals = job.signals;
+    let snap = snaps(before.snap, n);
+    let scene = scene_at(before, chunk.start + n, chunk.start + chunk.len, snap);
+    Job {
+        plan,
+        routes,
+        scene,
+        signals,
+        chunks: job.chunks,
+        plans: job.plans,
+    }
+}
+
+// where row n starts, of rows of that width
+fn row_at(width: usize, n: usize) -> usize
+    requires { ⌜ (width ≤ 64) × (n ≤ 4096) ⌝ }
+    ensures { λ r. ⌜ (r ≡ n * width) × (r ≤ 262144) ⌝ }
+{
+    n * width
+}
+
+// The rows of a plan in a chunk, of which the first is at the start of the audio that is lent, and the plan's slews.
+pub fn frames(
+    values: &mut [f32],
+    audio: &mut [f32],
+    job: Job,
+    chunk: Chunk,
+    held: &[f32],
+    globals: &[f32],
+    bases: &[f32],
+    tables: &[f32],
+    samples: &[f32],
+)
+    requires { ⌜ Bounded job × (chunk .start + chunk .len ≤ 4096) ⌝ }
+    ensures { λ _. ⌜ ((st : State) (d : ℕ) → Of st d job → sounds (now (values .exit)) (now (audio .exit)) ≡ rowFrames st (jobEnv job (now (held .entry)) (now (globals .entry)) (now (bases .entry)) (now (tables .entry)) (now (samples .entry))) chunk d 0 (chunk .len) (sounds (now (values .entry)) (now (audio .entry)))) ⌝ }
+{
+    let width = sum::lane_count(job);
+    let len = chunk.len;
+    let mut n = 0usize;
+    while n < len {
+        let here = job_at(job, chunk, n);
+        let start = row_at(width, n);
+        frame(
+            values,
+            audio,
+            here,
+            start,
+            held,
+            globals,
+            bases,
+            tables,
+            samples,
+        );
+        n += 1;
+    }
+}
+
+// ---- the plans
+
+// What the audio of a chunk is worked out from, besides the lent numbers: the plans, of which `plans` are there and the first `control` have no audio, the routes,
+// scene and signals, how many chunks a plan has room for, and how many frames.
+pub struct Work {
+    pub plan: [Plan; SLOTS],
+    pub routes: [Route; SLOTS],
+    pub scene: Scene,
+    pub signals: Signals,
+    pub chunks: usize,
+    pub frames: usize,
+    pub plans: usize,
+    pub control: usize,
+}
+
+// a plan of the program
+fn plan_at(plans: [Plan; SLOTS], d: usize) -> Plan
+    requires { ⌜ d < slots ⌝ }
+    ensures { λ r. ⌜ r ≡ getD plans d noPlan ⌝ }
+{
+    plans[d]
+}
+
+// the job of plan d
+fn job_of(work: Work, d: usize) -> Job
+    requires { ⌜ d < slots ⌝ }
+    ensures { λ r. ⌜ r ≡ jobOf work (getD (work .plan) d noPlan) ⌝ }
+{
+    let plans = work.plan;
+    let routes = work.routes;
+    let scene = work.scene;
+    let signals = work.signals;
+    let plan = plan_at(plans, d);
+    Job {
+        plan,
+        routes,
+        scene,
+        signals,
+        chunks: work.chunks,
+        plans: work.plans,
+    }
+}
+
+// where the row of plan d, of that width, starts at frame k
+fn audio_at(stride: usize, frames: usize, d: usize, width: usize, k: usize) -> usize
+    requires { ⌜ (stride ≤ 64) × (frames ≤ 4096) × (d < slots) × (width ≤ 64) × (k ≤ 4096) ⌝ }
+    ensures { λ r. ⌜ (r ≡ audioRow stride frames d width k) × (r ≤ 33554432) ⌝ }
+{
+    d * (stride * frames) + k * width
+}
+
+// The rows of plan d in a chunk, which are a part of the audio, and its slews.
+pub fn plan_frames(
+    values: &mut [f32],
+    audio: &mut [f32],
+    work: Work,
+    chunk: Chunk,
+    d: usize,
+    held: &[f32],
+    globals: &[f32],
+    bases: &[f32],
+    tables: &[f32],
+    samples: &[f32],
+)
+    requires { ⌜ Sized work chunk × (d < work .plans) × (audioRoom work ≤ length (now audio)) ⌝ }
+    ensures { λ _. ⌜ ((st : State) → Installed st work → sounds (now (values .exit)) (now (audio .exit)) ≡ audioFrames st (workEnv work (now (held .entry)) (now (globals .entry)) (now (bases .entry)) (now (tables .entry)) (now (samples .entry))) chunk d (chunk .len) (sounds (now (values .entry)) (now (audio .entry)))) ⌝ }
+{
+    let stride = work.scene.stride;
+    let job = job_of(work, d);
+    let width = sum::lane_count(job);
+    let a = audio_at(stride, work.frames, d, width, chunk.start);
+    let e = a + row_at(width, chunk.len);
+    frames(
+        values,
+        &mut audio[a..e],
+        job,
+        chunk,
+        held,
+        globals,
+        bases,
+        tables,
+        samples,
+    );
+}
+
+// The audio of a chunk: the rows of the plans that have audio, and their slews.
+pub fn audio_plans(
+    values: &mut [f32],
+    audio: &mut [f32],
+    work: Work,
+    chunk: Chunk,
+    held: &[f32],
+    globals: &[f32],
+    bases: &[f32],
+    tables: &[f32],
+    samples: &[f32],
+)
+    requires { ⌜ Sized work chunk × (audioRoom work ≤ length (now audio)) ⌝ }
+    ensures { λ _. ⌜ ((st : State) → Installed st work → sounds (now (values .exit)) (now (audio .exit)) ≡ audioOf st (workEnv work (now (held .entry)) (now (globals .entry)) (now (bases .entry)) (now (tables .entry)) (now (samples .entry))) chunk (sounds (now (values .entry)) (now (audio .entry)))) ⌝ }
+{
+    let count = work.plans - work.control;
+    let mut k = 0usize;
+    while k < count {
+        let d = work.control + k;
+        plan_frames(
+            values,
+            audio,
+            work,
+            chunk,
+            d,
+            held,
+            globals,
+            bases,
+            tables,
+            samples,
+        );
+        k += 1;
+    }
+}
