@@ -1,0 +1,3 @@
+pub mod Room
+pub mod Scenes
+pub mod Worlds
