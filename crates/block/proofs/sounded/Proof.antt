@@ -8,7 +8,7 @@ work-of-requires : tie.Need-work-of-requires
 work-of-requires c κs = search needs
 
 audio-plans-requires : tie.Need-audio-plans-requires
-audio-plans-requires c κs = 
+audio-plans-requires c κs =
     let o = c .before .before .before .before .before .before .before .before .before .before in
     work-sized (o .args .state) (o .args .chunk) (o .args .snap) (o .args .signals) _ (c .before .before .work-of .ensures) (o .pre)
 
@@ -19,7 +19,7 @@ same-length-2 : tie.Need-same-length-2
 same-length-2 c = search needs
 
 returns : tie.Need-returns
-returns c = 
+returns c =
     let a = c .before .before .before .before .before .before .before .before .before .before .before .before .before .before .before .args in
     sounded-is (a .state) (a .chunk) (a .snap) (a .signals) _ (c .before .before .before .before .before .before .before .work-of .ensures) (a .samples .now) (a .held .now) (a .globals .now) (a .bases .now) (a .values .now) (a .audio .now) (a .tables .now) _ _ (c .before .before .before .before .audio-plans .ensures)
 
