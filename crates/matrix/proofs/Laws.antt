@@ -1,13 +1,14 @@
 -- Laws that proofs cite in place of the definitions' text. Assumes nothing.
 use mathlib.Core.Path.{_≡_, refl, ap, _∙_}
 use mathlib.Core.Bool.{Bool, true, false}
-use mathlib.Core.List.{List, _∷_, List·Memᴰ·head, List·Memᴰ·tail}
+use mathlib.Core.List.{List, [], _∷_, List·Memᴰ·head, List·Memᴰ·tail}
 use Prim.Native.Nat.{ℕ, _≤_, _<_}
 use lib.Dec.{eqb}
-use lib.ListN.{length}
+use lib.ListN.{length, getD}
 use lib.Seq.{set-out}
 use lib.Ieee.{Float}
 use borrow.Author.Tests.{not-false, ltb-false, leb-false, eqb-true, ne-eqb, lt-ltb, le-ltb}
+use Rattle.number.specs.Number.{zero32, finite}
 use Rattle.judge.specs.Judge.{judged}
 use Rattle.judge.proofs.Laws.{judged-accepted}
 use Rattle.config.specs.Sizes.{slots}
@@ -17,8 +18,19 @@ use Rattle.state.specs.declared.Matrix.{Matrix}
 use Rattle.tables.specs.Tables.{tablesNeed, namesTable}
 use Rattle.sorting.specs.Moved.{slotsAt, movedTables}
 use Rattle.slot.specs.Matrix.{withSlots, withSlot}
-use Rattle.tables.specs.Rows.{tableRows}
-use Rattle.matrix.specs.Edits.{slotRow, answered, tabled, sortedFrom, sortSlots}
+use Rattle.tables.specs.Rows.{finiteRow, tableRows}
+use Rattle.matrix.specs.Edits.{slotRow, answered, placed, tabled, sortedFrom, sortSlots}
+use Rattle.slot.specs.Slots.{firstEmpty, routeSlot, keptAmount}
+use Rattle.editing.specs.Drag.{bothFinite, polarityAt, depthAt, draggedAmount}
+use Rattle.editing.specs.Free.{firstFree}
+use Rattle.state.specs.declared.Target.{Target}
+use Rattle.state.specs.declared.Polarity.{Polarity}
+use Rattle.state.specs.declared.Polarity.the-variants as L
+use Rattle.matrix.specs.Routes.{dragRoute, addVibrato, createVibrato, dragPolarity, limitDepth}
+use Rattle.matrix.specs.declared.Place.the-variants as P
+use Rattle.matrix.specs.declared.Placed.{Placed}
+use Rattle.matrix.specs.declared.PolarityMade.{PolarityMade}
+use Rattle.matrix.specs.declared.Depth.{Depth}
 use Rattle.matrix.specs.declared.SortBy.{SortBy}
 use Rattle.matrix.specs.declared.Edited.{Edited}
 
@@ -71,3 +83,44 @@ pub sort-named : (m next : Matrix) (t : List Float) (by : SortBy) (places : List
     → (_≡_ {A = Edited} (record { code = 0; matrix = next }) (sortSlots m t by .answer)) × (movedTables places t ≡ sortSlots m t by .tables)
 unfolding sortSlots tabled answered judged
 sort-named m next t by places named h p e = (simp (named, le-ltb _ _ h, e, p), simp (named, le-ltb _ _ h, p))
+
+-- ---- routes that the editor makes
+
+module _ (m : Matrix) (lfos : List ℕ) (wheel : ℕ) (t : Target) (x : Float) where
+  pub vibrato-refused : finite x ≡ false → _≡_ {A = Placed} (record { code = 6; place = P.Refused; matrix = m }) (createVibrato m lfos wheel t x)
+  unfolding createVibrato
+  vibrato-refused f = rw f
+
+  -- no LFO is free
+  pub vibrato-none : (k : ℕ) → finite x ≡ true → k ≡ firstFree lfos (m .slot) → length lfos ≤ k
+      → _≡_ {A = Placed} (record { code = 0; place = P.NoFreeLfo; matrix = m }) (createVibrato m lfos wheel t x)
+  unfolding createVibrato
+  vibrato-none k f e h = rw (f, ← e, le-ltb k (length lfos) h)
+
+  pub vibrato-made : (k : ℕ) (r : Placed) → finite x ≡ true → k ≡ firstFree lfos (m .slot) → k < length lfos → r ≡ addVibrato m (getD lfos k 0) wheel t x
+      → r ≡ createVibrato m lfos wheel t x
+  unfolding createVibrato
+  vibrato-made k r f e h q = rw (f, ← e, lt-ltb k (length lfos) h) q
+
+-- a drag, step by step
+pub drag-made : (m : Matrix) (source : ℕ) (t : Target) (at x : Float) (toggle limit : Bool) (b : Bool) (code : ℕ) (p : Polarity) (d k : Float) (s : Slot) (i : ℕ)
+    → b ≡ bothFinite at x → code ≡ judged (finiteRow b ∷ []) → p ≡ polarityAt at toggle → d ≡ draggedAmount at p x limit → k ≡ keptAmount d
+    → s ≡ routeSlot source t k p → i ≡ firstEmpty (m .slot) → placed code m i s ≡ dragRoute m source t at x toggle limit
+unfolding dragRoute
+drag-made m source t at x toggle limit b code p d k s i eb ec ep ed ek es ei = rw (ec, eb, ei, es, ek, ed, ep)
+
+pub polarity-refused : (at : Float) (b : Bool) → finite at ≡ false → _≡_ {A = PolarityMade} (record { code = 6; polarity = L.Unipolar }) (dragPolarity at b)
+unfolding dragPolarity
+polarity-refused at b f = rw f
+
+pub polarity-made : (at : Float) (b : Bool) (p : Polarity) → finite at ≡ true → p ≡ polarityAt at b → _≡_ {A = PolarityMade} (record { code = 0; polarity = p }) (dragPolarity at b)
+unfolding dragPolarity
+polarity-made at b p f e = rw (f, e)
+
+pub depth-refused : (at : Float) (p : Polarity) (x : Float) → bothFinite at x ≡ false → _≡_ {A = Depth} (record { code = 6; amount = zero32 }) (limitDepth at p x)
+unfolding limitDepth
+depth-refused at p x f = rw f
+
+pub depth-made : (at : Float) (p : Polarity) (x d : Float) → bothFinite at x ≡ true → d ≡ depthAt at p x → _≡_ {A = Depth} (record { code = 0; amount = d }) (limitDepth at p x)
+unfolding limitDepth
+depth-made at p x d f e = rw (f, e)

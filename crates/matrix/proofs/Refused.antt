@@ -1,14 +1,17 @@
 -- A REFUSED CALL CHANGES NOTHING: where the code is not 0, the matrix is as it came, and so are the tables (document 01, Numbers that a call hands back).
 -- Assumes nothing.
-use mathlib.Core.Path.{_≡_}
+use mathlib.Core.Path.{_≡_, refl}
 use mathlib.Core.Logic.{_≢_}
-use mathlib.Core.Bool.{Bool}
+use mathlib.Core.Bool.{Bool, true, false, cond}
 use mathlib.Core.List.{List}
 use Prim.Native.Nat.{ℕ, _≤_}
 use native.Mathlib.Decide.{ℕ-discrete, decLt}
 use native.Mathlib.Omega.{arith}
 use lib.Ieee.{Float}
-use lib.ListN.{length, List·getD-eq-default}
+use lib.Dec.{ltb}
+use lib.ListN.{length, getD, List·getD-eq-default}
+use Rattle.number.specs.Number.{finite}
+use Rattle.editing.specs.Free.{firstFree}
 use borrow.Author.Tests.{ne-eqb, le-ltb, lt-ltb, lt-leb}
 use Rattle.config.specs.Sizes.{slots}
 use Rattle.judge.specs.Judge.{Row, judged}
@@ -20,6 +23,7 @@ use Rattle.state.specs.declared.Matrix.{Matrix}
 use Rattle.slot.specs.Slots.{emptySlot}
 use Rattle.slot.specs.Matrix.{slotOf}
 use Rattle.matrix.specs.Edits.{WithTables, slotAt, answered, edited, placed, tabled, setSlot, addRoute, removeSlot, setBypass, setSlotAmount, setSlotOutput, setPolarity, setAux, setLinear, setCurve, setNoteCurve, sortSlots, loadMatrix}
+use Rattle.matrix.specs.Routes.{dragRoute, addVibrato, createVibrato, createVelocityToAmp}
 use Rattle.matrix.specs.declared.CurveSlot.{CurveSlot}
 use Rattle.matrix.specs.declared.NoteSlot.{NoteSlot}
 use Rattle.matrix.specs.declared.SortBy.{SortBy}
@@ -113,6 +117,31 @@ set-linear-leaves m n which = edited-leaves _ m n _
 pub add-leaves : (m : Matrix) (source : ℕ) (t : Target) (x : Float) (p : Polarity) → LeavesPlaced m (addRoute m source t x p)
 unfolding addRoute
 add-leaves m source t x p = placed-leaves _ m _ _
+
+pub drag-leaves : (m : Matrix) (source : ℕ) (t : Target) (at x : Float) (toggle limit : Bool) → LeavesPlaced m (dragRoute m source t at x toggle limit)
+unfolding dragRoute
+drag-leaves m source t at x toggle limit = placed-leaves _ m _ _
+
+pub velocity-leaves : (m : Matrix) (velocity : ℕ) (t : Target) (x : Float) → LeavesPlaced m (createVelocityToAmp m velocity t x)
+unfolding createVelocityToAmp
+velocity-leaves m velocity t x = add-leaves m velocity t x _
+
+-- no free LFO carries no number
+chosen-leaves : (m : Matrix) (f k : Bool) (p : Placed) → LeavesPlaced m p
+    → LeavesPlaced m (cond f (cond k p (record { code = 0; place = P.NoFreeLfo; matrix = m })) (record { code = 6; place = P.Refused; matrix = m }))
+chosen-leaves m true true p l h = l h
+chosen-leaves m true false p l h = absurd (h refl)
+chosen-leaves m false k p l h = (refl, refl)
+
+add-vibrato-leaves : (m : Matrix) (lfo wheel : ℕ) (t : Target) (x : Float) → LeavesPlaced m (addVibrato m lfo wheel t x)
+unfolding addVibrato
+add-vibrato-leaves m lfo wheel t x = placed-leaves 0 m _ _
+
+pub vibrato-leaves : (m : Matrix) (lfos : List ℕ) (wheel : ℕ) (t : Target) (x : Float) → LeavesPlaced m (createVibrato m lfos wheel t x)
+unfolding createVibrato
+vibrato-leaves m lfos wheel t x =
+    let k = firstFree lfos (m .slot) in
+    chosen-leaves m (finite x) (ltb k (length lfos)) (addVibrato m (getD lfos k 0) wheel t x) (add-vibrato-leaves m (getD lfos k 0) wheel t x)
 
 pub set-curve-leaves : (m : Matrix) (tables : List Float) (n : ℕ) (which : CurveSlot) (t : List Float) (rise fall : Float)
     → LeavesTables m tables (setCurve m tables n which t rise fall)

@@ -4,18 +4,19 @@ use mathlib.Core.Bool.{true, false}
 use mathlib.Core.List.{[], _∷_}
 use lib.IntN.{negsuc}
 use lib.ListN.{replicate}
-use lib.Ieee.{nan, inf, fin, lt, le}
+use lib.Ieee.{nan, inf, fin, neg, isNan, sub, lt, le}
 use Rattle.judge.specs.Judge.{judged}
-use Rattle.number.specs.Number.{zero32, one32, finite, clampTo}
+use Rattle.number.specs.Number.{zero32, half32, one32, finite, min32, absOf, clampTo}
 use Rattle.table.specs.Table.{allowed, allAllowed}
 use Rattle.table.specs.Curve.{secondsFinite}
 use Rattle.table.specs.declared.Curve.the-variants as C
+use Rattle.state.specs.declared.Pick.the-variants as A
 use Rattle.state.specs.declared.Target.the-variants as T
 use Rattle.state.specs.declared.Polarity.the-variants as L
 use Rattle.state.specs.declared.NoteCurve.the-variants as N
 use Rattle.state.specs.declared.Slot.{Slot}
 use Rattle.state.specs.declared.Matrix.{Matrix}
-use Rattle.slot.specs.Slots.{emptySlot, isEmptySlot, firstEmpty, routeSlot, keptAmount, cleared, countAims, numbersFinite, withAmount, withSourceCurve}
+use Rattle.slot.specs.Slots.{emptySlot, isEmptySlot, firstEmpty, routeSlot, keptAmount, cleared, countAims, numbersFinite, withAmount, withAux, withSourceCurve}
 use Rattle.tables.specs.Tables.{slotNames, anyNames, namesTable}
 use Rattle.sorting.specs.Keys.{keyOf}
 use Rattle.sorting.specs.Order.{before, countBefore, rankOf, ranks, placesOf, sortedPlaces}
@@ -23,6 +24,9 @@ use Rattle.sorting.specs.Moved.{slotsAt}
 use Rattle.slot.specs.Matrix.{newMatrix, slotOf, withSlots, withSlot, withVelocity}
 use Rattle.tables.specs.Rows.{curveAllowed}
 use Rattle.matrix.specs.Edits.{answered, edited, placed, tabled, slotAt, setSlot, addRoute, setSlotAmount, removeDestination, setCurve, sortedFrom, sortSlots, loadMatrix}
+use Rattle.editing.specs.Drag.{bothFinite, centred, twoWay, polarityAt, oneWayRoom, within, depthAt, draggedAmount}
+use Rattle.editing.specs.Free.{inUse, firstFree}
+use Rattle.matrix.specs.Routes.{dragRoute, addVibrato, createVibrato, createVelocityToAmp, dragPolarity, limitDepth}
 use Rattle.matrix.specs.declared.CurveSlot.the-variants as W
 use Rattle.matrix.specs.declared.Place.the-variants as P
 use Rattle.matrix.specs.declared.SortBy.the-variants as S
@@ -59,6 +63,27 @@ adding = (refl, refl, refl, refl)
 removing : (removeDestination full (T.Param 7) ≡ record { count = 64; matrix = newMatrix }) × (removeDestination full (T.LfoBus 7 0) ≡ record { count = 0; matrix = full })
 unfolding removeDestination countAims cleared newMatrix withSlots emptySlot routeSlot route full
 removing = (refl, refl)
+
+-- ---- routes that the editor makes
+
+-- 3/4 of the travel: one way, and with the limit 1/4 of the amount; a NaN position is row 6, also without the limit
+dragging : (dragRoute newMatrix 5 (T.Param 7) (fin false 3 (negsuc 1)) one32 false true ≡ addRoute newMatrix 5 (T.Param 7) (fin false 1 (negsuc 1)) L.Unipolar) × (dragRoute newMatrix 5 (T.Param 7) half32 one32 false false ≡ addRoute newMatrix 5 (T.Param 7) one32 L.Bipolar) × (dragRoute newMatrix 5 (T.Param 7) nan one32 false false ≡ record { code = 6; place = P.Refused; matrix = newMatrix }) × (dragRoute full 5 (T.Param 7) half32 one32 false false .place ≡ P.Full)
+unfolding dragRoute draggedAmount depthAt within oneWayRoom polarityAt twoWay centred bothFinite absOf min32 isNan sub neg le addRoute placed judged finite keptAmount clampTo lt firstEmpty isEmptySlot newMatrix withSlot withSlots emptySlot routeSlot route full
+dragging = (refl, refl, refl, refl)
+
+-- both answer 6 where a number is not finite, with one way and 0
+dragged-alone : (dragPolarity half32 false ≡ record { code = 0; polarity = L.Bipolar }) × (dragPolarity (inf true) true ≡ record { code = 6; polarity = L.Unipolar }) × (limitDepth half32 L.Bipolar one32 ≡ record { code = 0; amount = half32 }) × (limitDepth half32 L.Bipolar nan ≡ record { code = 6; amount = zero32 })
+unfolding dragPolarity limitDepth bothFinite finite polarityAt twoWay centred absOf depthAt within oneWayRoom clampTo min32 isNan sub neg lt le
+dragged-alone = (refl, refl, refl, refl)
+
+-- 5 is in use, 6 is free; no LFO is free before no slot is empty; a NaN is row 6 before both
+vibratos : (createVibrato (withSlot newMatrix 0 route) (5 ∷ 6 ∷ []) 9 (T.Param 7) one32 ≡ record { code = 0; place = P.At 1; matrix = withSlot (withSlot newMatrix 0 route) 1 (withAux (A.Source 9) false (routeSlot 6 (T.Param 7) one32 L.Bipolar)) }) × (createVibrato full (5 ∷ []) 9 (T.Param 7) one32 ≡ record { code = 0; place = P.NoFreeLfo; matrix = full }) × (createVibrato full (6 ∷ []) 9 (T.Param 7) one32 ≡ record { code = 0; place = P.Full; matrix = full }) × (createVibrato full [] 9 (T.Param 7) nan ≡ record { code = 6; place = P.Refused; matrix = full })
+unfolding createVibrato addVibrato firstFree inUse withAux placed finite keptAmount clampTo lt firstEmpty isEmptySlot newMatrix withSlot withSlots emptySlot routeSlot route full
+vibratos = (refl, refl, refl, refl)
+
+velocities : createVelocityToAmp newMatrix 5 (T.Param 7) one32 ≡ record { code = 0; place = P.At 0; matrix = withSlot newMatrix 0 (routeSlot 5 (T.Param 7) one32 L.Unipolar) }
+unfolding createVelocityToAmp addRoute placed judged finite keptAmount clampTo lt firstEmpty isEmptySlot newMatrix withSlot withSlots emptySlot routeSlot
+velocities = refl
 
 -- ---- tables
 

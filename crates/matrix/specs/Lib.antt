@@ -1,3 +1,4 @@
 pub mod Which
 pub mod Edits
+pub mod Routes
 pub mod Examples

@@ -9,6 +9,7 @@ ghost use Rattle.slot.specs.Matrix.{newMatrix, slotsOf, withSlot};
 ghost use Rattle.matrix.specs.Which.{withCurve, withNote, placeOf, notePlace};
 ghost use Rattle.tables.specs.Rows.{finiteRow};
 ghost use Rattle.matrix.specs.Edits.{slotRow, answered, placed, slotAt, setSlot, addRoute, removeSlot, setBypass, setSlotAmount, setSlotOutput, setPolarity, setAux, setLinear, removeDestination, setGlide, setVelocityLegato, setNoteLinear, setCurve, setNoteCurve, bySource, sortSlots, loadMatrix};
+ghost use Rattle.matrix.specs.Routes.{dragRoute, addVibrato, createVibrato, createVelocityToAmp, dragPolarity, limitDepth};
 use config::SLOTS;
 use state::Matrix;
 use state::NoteCurve;
@@ -64,6 +65,16 @@ pub struct Placed {
 pub struct Removed {
     pub count: usize,
     pub matrix: Matrix,
+}
+
+pub struct PolarityMade {
+    pub code: u8,
+    pub polarity: Polarity,
+}
+
+pub struct Depth {
+    pub code: u8,
+    pub amount: f32,
 }
 
 // ---- slots
@@ -293,6 +304,109 @@ pub fn add(
     let route = slot::route_slot(source, destination, slot::kept_amount(amount), polarity);
     let slots = matrix.slot;
     place_at(code, matrix, slot::first_empty(slots), route)
+}
+
+// ---- routes that the editor makes
+
+// a route as dragging the source onto a control at that position makes it
+pub fn drag(
+    matrix: Matrix,
+    source: usize,
+    destination: Target,
+    position: f32,
+    amount: f32,
+    toggle: bool,
+    limit: bool,
+) -> Placed
+    ensures { λ r. ⌜ r ≡ dragRoute matrix source destination position amount toggle limit ⌝ }
+{
+    let code = judge::row(!editing::both_finite(position, amount), 6);
+    let polarity = editing::polarity_at(position, toggle);
+    let dragged = editing::dragged_amount(position, polarity, amount, limit);
+    let route = slot::route_slot(source, destination, slot::kept_amount(dragged), polarity);
+    let slots = matrix.slot;
+    place_at(code, matrix, slot::first_empty(slots), route)
+}
+
+// a route both ways from that LFO, with the mod wheel as its aux, in the first empty slot
+fn vibrato(matrix: Matrix, lfo: usize, mod_wheel: usize, tuning: Target, amount: f32) -> Placed
+    ensures { λ r. ⌜ r ≡ addVibrato matrix lfo «mod_wheel» tuning amount ⌝ }
+{
+    let both = Polarity::Bipolar;
+    let route = slot::route_slot(lfo, tuning, slot::kept_amount(amount), both);
+    let wheel = Pick::Source(mod_wheel);
+    let with_wheel = slot::with_aux(route, wheel, false);
+    let slots = matrix.slot;
+    place_at(0, matrix, slot::first_empty(slots), with_wheel)
+}
+
+// a vibrato from the first of the LFOs that no slot uses
+pub fn create_vibrato(
+    matrix: Matrix,
+    lfos: &[usize],
+    mod_wheel: usize,
+    tuning: Target,
+    amount: f32,
+) -> Placed
+    ensures { λ r. ⌜ r ≡ createVibrato matrix (now (lfos .entry)) «mod_wheel» tuning amount ⌝ }
+{
+    if !number::is_finite(amount) {
+        return Placed {
+            code: 6,
+            place: Place::Refused,
+            matrix,
+        };
+    }
+    let slots = matrix.slot;
+    let free = editing::first_free(lfos, slots);
+    if lfos.len() <= free {
+        return Placed {
+            code: 0,
+            place: Place::NoFreeLfo,
+            matrix,
+        };
+    }
+    let lfo = lfos[free];
+    vibrato(matrix, lfo, mod_wheel, tuning, amount)
+}
+
+// a route one way from the velocity to the amp
+pub fn create_velocity_to_amp(matrix: Matrix, velocity: usize, amp: Target, amount: f32) -> Placed
+    ensures { λ r. ⌜ r ≡ createVelocityToAmp matrix velocity amp amount ⌝ }
+{
+    let one = Polarity::Unipolar;
+    add(matrix, velocity, amp, amount, one)
+}
+
+// the polarity of a route dragged onto a control at that position
+pub fn drag_polarity(position: f32, toggle: bool) -> PolarityMade
+    ensures { λ r. ⌜ r ≡ dragPolarity position toggle ⌝ }
+{
+    if !number::is_finite(position) {
+        return PolarityMade {
+            code: 6,
+            polarity: Polarity::Unipolar,
+        };
+    }
+    let polarity = editing::polarity_at(position, toggle);
+    PolarityMade { code: 0, polarity }
+}
+
+// the amount, held to the travel that the position leaves
+pub fn limit_depth(position: f32, polarity: Polarity, amount: f32) -> Depth
+    ensures { λ r. ⌜ r ≡ limitDepth position polarity amount ⌝ }
+{
+    if !editing::both_finite(position, amount) {
+        return Depth {
+            code: 6,
+            amount: 0.0,
+        };
+    }
+    let depth = editing::depth_at(position, polarity, amount);
+    Depth {
+        code: 0,
+        amount: depth,
+    }
 }
 
 // ---- removing a destination

@@ -1,3 +1,4 @@
 pub mod Keys
 pub mod Registry
 pub mod Adding
+pub mod Written

@@ -1,4 +1,7 @@
 pub mod Keys
 pub mod Registry
 pub mod Info
+pub mod Named
+pub mod Standard
 pub mod Examples
+pub mod StandardExamples

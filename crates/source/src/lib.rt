@@ -40,6 +40,19 @@ pub struct SourceInfo {
     pub range: Range,
 }
 
+// How many of each kind the standard sources have.
+pub struct Counts {
+    pub envelopes: usize,
+    pub lfos: usize,
+    pub macros: usize,
+    pub sequence_values: usize,
+}
+
+pub struct StandardMade {
+    pub code: u8,
+    pub sources: Sources,
+}
+
 // ---- the registry
 
 // What stands where nothing is registered.

@@ -1,0 +1,3 @@
+pub mod Drag
+pub mod Free
+pub mod Examples
