@@ -20,7 +20,7 @@ use Rattle.model.specs.Counts.{voiceCount, frameCount, strideOf, chunksMost, en
 use Rattle.model.specs.World.{World, worldOf}
 use Rattle.model.specs.States.{withMarks, withDraw, withPhase, withBlock, putState, putGlobals, putValues}
 use Rattle.model.specs.Chunks.{chunkTotal, chunkOf}
-use Rattle.model.specs.Process.{Drawn, valuesOf, loaded, drawn, putDrawn, glided, chunkStep, chunkSteps, closed, blockOf, noBlock, routeless}
+use Rattle.model.specs.Process.{Drawn, valuesOf, loaded, drawn, putDrawn, glided, chunkStep, chunkSteps, closed, blockOf, noBlock, run}
 use Rattle.model.specs.Need.{valuesRows}
 use Rattle.chunk.proofs.Chunks.{inside}
 use Rattle.opening.specs.declared.Lengths.{Lengths}
@@ -31,7 +31,8 @@ use Rattle.opening.proofs.Codes.{accepted}
 use Rattle.opening.proofs.Worlds.{loaded-by-parts, drawn-by-parts}
 use Rattle.block.specs.Room.{Room, Keeps}
 use Rattle.block.specs.Scenes.{drawnOf}
-use Rattle.block.proofs.Steps.{sources-kept, values-kept, chunks-kept, frames-kept}
+use Rattle.block.specs.Worlds.{loadedWorld, drawnWorld, closedWorld, routelessWorld, steppedWorld, routedWorld, runWorld}
+use Rattle.block.proofs.Steps.{sources-kept, values-kept, audio-kept, chunks-kept, frames-kept}
 
 -- ---- the chunks of a block
 
@@ -61,21 +62,21 @@ module _ (samples : List Float) (signals : Signals) (b : Block) (w : World) wher
   steps-all i n o e f g = e ∙ ap (λ (k : ℕ). chunkSteps samples signals b k w) (f ∙ g)
 
 -- what a step asks for
-pub step-ready : {st next : State} → Keeps st next → (b : Block) (i h h′ v v′ : ℕ) (c : Chunk) → h′ ≡ h → v′ ≡ v → Room st h v → b .end ≤ frameCount st
-    → i < chunkTotal b → c ≡ chunkOf b i → Room next h′ v′ × (i < chunksMost next) × (c .start + c .len ≤ frameCount next)
-step-ready {st} {next} k b i h h′ v v′ c eh ev r he hi ec =
+pub step-ready : {st next : State} → Keeps st next → (b : Block) (i h h′ v v′ s s′ : ℕ) (c : Chunk) → h′ ≡ h → v′ ≡ v → s′ ≡ s → Room st h v s → b .end ≤ frameCount st
+    → i < chunkTotal b → c ≡ chunkOf b i → Room next h′ v′ s′ × (i < chunksMost next) × (c .start + c .len ≤ frameCount next)
+step-ready {st} {next} k b i h h′ v v′ s s′ c eh ev es r he hi ec =
     let low = chunk-below b i (frameCount st) hi he in
     let in-frames = chunk-end b i (frameCount st) hi he in (
-      record { held = omega (arith, sources-kept k, r .held); values = omega (arith, values-kept k, r .values) },
+      record { held = omega (arith, sources-kept k, r .held); values = omega (arith, values-kept k, r .values); audio = omega (arith, audio-kept k, r .audio) },
       omega (arith, chunks-kept k, low),
       rw ec (omega (arith, frames-kept k, in-frames)),
     )
 
 -- what the steps ask for
-pub steps-ready : {st next : State} → Keeps st next → (b : Block) (start end h v v′ : ℕ) → v′ ≡ v → Room st h v → b ≡ blockOf st start end → end ≤ frameCount st
-    → Room next h v′ × (b .end ≤ frameCount next)
-steps-ready k b start end h v v′ ev r eb he =
-    (record { held = omega (arith, sources-kept k, r .held); values = omega (arith, values-kept k, r .values) }, rw eb (omega (arith, frames-kept k, he)))
+pub steps-ready : {st next : State} → Keeps st next → (b : Block) (start end h v v′ s : ℕ) → v′ ≡ v → Room st h v s → b ≡ blockOf st start end → end ≤ frameCount st
+    → Room next h v′ s × (b .end ≤ frameCount next)
+steps-ready k b start end h v v′ s ev r eb he =
+    (record { held = omega (arith, sources-kept k, r .held); values = omega (arith, values-kept k, r .values); audio = omega (arith, audio-kept k, r .audio) }, rw eb (omega (arith, frames-kept k, he)))
 
 -- ---- open and close
 
@@ -92,17 +93,18 @@ module _ (st : State) (n stride chunks plans routes : ℕ) where
 
 module _ (st : State) (h g a v b t : List Float) where
   pub loaded-is : (m : List Float) (n : ℕ) (x : Float) → n ≡ engineSources st → x ≡ loadIn (st .voices) (st .config .voices) (st .limit)
-      → m ≡ loadIf (st .mark) x n g → worldOf st h m a v b t ≡ loaded (worldOf st h g a v b t)
-  unfolding putGlobals
+      → m ≡ loadIf (st .mark) x n g → worldOf st h m a v b t ≡ loadedWorld (worldOf st h g a v b t)
+  unfolding loadedWorld putGlobals
   loaded-is m n x en ex em = rw (em, ex, en) (sym (loaded-by-parts (worldOf st h g a v b t)))
 
-  pub drawn-not : st .marks .«any_renoted» ≡ false → worldOf st h g a v b t ≡ drawn (worldOf st h g a v b t)
+  pub drawn-not : st .marks .«any_renoted» ≡ false → worldOf st h g a v b t ≡ drawnWorld (worldOf st h g a v b t)
+  unfolding drawnWorld
   drawn-not e = rw e
 
   pub drawn-is : st .marks .«any_renoted» ≡ true → (d : ℕ) (m : List Float)
       → drawnOf d m ≡ drawnRoutes (st .marks .renoted) (voiceCount st) (strideOf st) (chunksMost st) (planTotal (st .program)) (st .program .route) (routeTotal (st .program)) (drawnOf (st .draw) v)
-      → worldOf (withDraw st d) h g a m b t ≡ drawn (worldOf st h g a v b t)
-  unfolding putValues putState
+      → worldOf (withDraw st d) h g a m b t ≡ drawnWorld (worldOf st h g a v b t)
+  unfolding drawnWorld putValues putState
   drawn-is e d m f =
       let w = worldOf st h g a v b t in
       let r = drawnRoutes (st .marks .renoted) (voiceCount st) (strideOf st) (chunksMost st) (planTotal (st .program)) (st .program .route) (routeTotal (st .program)) (drawnOf (st .draw) v) in
@@ -110,8 +112,8 @@ module _ (st : State) (h g a v b t : List Float) where
       ap (putDrawn w) f ∙ x ∙ sym (drawn-by-parts w)
 
   pub closed-is : (block : Block) (len phase : ℕ) (marks : Marks) → phase ≡ (st .phase % 32 + len % 32) % 32 → marks ≡ marksCleared (st .marks)
-      → worldOf (withBlock (withMarks (withPhase st phase) marks) block) h g a v b t ≡ closed block len (worldOf st h g a v b t)
-  unfolding putState
+      → worldOf (withBlock (withMarks (withPhase st phase) marks) block) h g a v b t ≡ closedWorld block len (worldOf st h g a v b t)
+  unfolding closedWorld putState
   closed-is block len phase marks e f =
       let same : phase ≡ (st .phase % 32 + len) % 32 = omega arith in
       rw (same, f)
@@ -122,12 +124,36 @@ drawn-keeps st d = record { config = refl; sources = refl; program = refl }
 
 -- ---- the block
 
-pub routeless-is : (len : ℕ) (block : Block) (w x o : World) → block ≡ noBlock → x ≡ glided len w → o ≡ closed block len x → o ≡ routeless len w
-routeless-is len block w x o e f g = g ∙ rw (e, f)
+pub routeless-is : (len : ℕ) (block : Block) (w x o : World) → block ≡ noBlock → x ≡ glided len w → o ≡ closedWorld block len x → o ≡ routelessWorld len w
+unfolding routelessWorld
+routeless-is len block w x o e f g = g ∙ ap (λ (d : Block). closedWorld d len x) e ∙ ap (closedWorld noBlock len) f
+
+module _ (samples : List Float) (signals : Signals) (start end : ℕ) (w : World) where
+  pub routed-is : (b : Block) (x y z o : World) → b ≡ blockOf (w .state) start end → x ≡ loadedWorld w → y ≡ drawnWorld x
+      → z ≡ chunkSteps samples signals b (chunkTotal b) y → o ≡ closedWorld b (end - start) z → o ≡ routedWorld samples signals start end w
+  unfolding routedWorld steppedWorld
+  routed-is b x y z o eb ex ey ez eo =
+      eo
+      ∙ ap (closedWorld b (end - start)) (ez ∙ ap (chunkSteps samples signals b (chunkTotal b)) (ey ∙ ap drawnWorld ex))
+      ∙ ap (λ (d : Block). steppedWorld samples signals d (end - start) w) eb
+
+  pub run-none : w .state .program .routes ≡ 0 → (o : World) → o ≡ routelessWorld (end - start) w → o ≡ runWorld samples signals start end w
+  unfolding runWorld
+  run-none e o f = f ∙ rw e
+
+  pub run-some : w .state .program .routes ≢ 0 → (o : World) → o ≡ routedWorld samples signals start end w → o ≡ runWorld samples signals start end w
+  unfolding runWorld
+  run-some e o f =
+      let no : eqb (routeTotal (w .state .program)) 0 ≡ false = ne-eqb (routeTotal (w .state .program)) 0 (λ z. e (omega arith)) in
+      f ∙ rw no
+
+  pub run-is : runWorld samples signals start end w ≡ run samples signals start end w
+  unfolding runWorld routelessWorld routedWorld steppedWorld closedWorld drawnWorld loadedWorld
+  run-is = refl
 
 -- a block that is not refused has room
 pub has-room : (st : State) (l : Lengths) (parts : List SignalPart) (end : ℕ) → codeBy (countsOf st) l parts end ≡ 0
-    → Room st (l .held) (l .values) × ((engineSources st ≤ l .globals) × (end ≤ frameCount st))
+    → Room st (l .held) (l .values) (l .audio) × ((engineSources st ≤ l .globals) × (end ≤ frameCount st))
 has-room st l parts end h =
     let a = accepted (countsOf st) l parts end h in
-    (record { held = a .held; values = a .values }, (a .globals, a .frames))
+    (record { held = a .held; values = a .values; audio = a .audio }, (a .globals, a .frames))

@@ -32,12 +32,12 @@ use Rattle.tick.specs.Turn.{Given, IsTick}
 use Rattle.slewing.specs.Seen.{Fits}
 use Rattle.sound.specs.declared.Work.{Work}
 use Rattle.sound.specs.Rows.{sounds}
-use Rattle.sound.specs.Work.{Sized, Installed, workEnv}
+use Rattle.sound.specs.Work.{Sized, Installed, workEnv, audioRoom}
 use Rattle.opening.specs.Marks.{movedIf}
 use Rattle.opening.specs.Rows.{chunkRows}
 use Rattle.opening.proofs.Rows.{plans-fit}
 use Rattle.opening.proofs.Worlds.{rowed-by-parts, glided-by-parts}
-use Rattle.block.specs.Room.{Room, Keeps}
+use Rattle.block.specs.Room.{Room, Keeps, audioSize}
 use Rattle.block.specs.Scenes.{sceneOf, workOf}
 
 -- ---- what is kept
@@ -61,8 +61,12 @@ module _ {st next : State} (k : Keeps st next) where
   pub values-kept : valuesOf next ≡ valuesOf st
   values-kept = rw (k .config, k .program)
 
-  pub room-kept : (h v : ℕ) → Room st h v → Room next h v
-  room-kept h v r = record { held = omega (arith, sources-kept, r .held); values = omega (arith, values-kept, r .values) }
+  pub audio-kept : audioSize next ≡ audioSize st
+  audio-kept = rw (k .config, k .program)
+
+  pub room-kept : (h v b : ℕ) → Room st h v b → Room next h v b
+  room-kept h v b r =
+      record { held = omega (arith, sources-kept, r .held); values = omega (arith, values-kept, r .values); audio = omega (arith, audio-kept, r .audio) }
 
 -- ---- the tick
 
@@ -124,7 +128,10 @@ rowed-is st i h g a v b t m control stride chunks plans ep ec es en em =
 module _ (st : State) (c : Chunk) (snap : Bool) (signals : Signals) (w : Work) (e : w ≡ workOf st c snap signals) where
   pub work-sized : c .start + c .len ≤ frameCount st → Sized w c
   work-sized h =
-      rw e (record { stride = omega arith; chunks = omega arith; frames = omega arith; plans = omega arith; control = omega arith; end = h })
+      rw e (record { lanes = omega arith; stride = omega arith; chunks = omega arith; frames = omega arith; plans = omega arith; control = omega arith; end = h })
+
+  pub work-room : (n : ℕ) → audioSize st ≤ n → audioRoom w ≤ n
+  work-room n h = rw e h
 
   installed : Installed st w
   installed = rw e (record { stride = refl; chunks = refl; frames = refl; plans = refl; control = refl; plan = refl; routes = refl })

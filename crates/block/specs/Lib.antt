@@ -1,2 +1,3 @@
 pub mod Room
 pub mod Scenes
+pub mod Worlds

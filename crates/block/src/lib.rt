@@ -14,16 +14,17 @@ ghost use Rattle.model.specs.Counts.{voiceCount, frameCount, strideOf, chunksMo
 ghost use Rattle.model.specs.Tick.{offPhase, tickOf};
 ghost use Rattle.model.specs.Chunks.{chunkTotal};
 ghost use Rattle.model.specs.World.{worldOf};
-ghost use Rattle.model.specs.Process.{valuesOf, glided, ticked, rowed, sounded, chunkStep, chunkSteps, loaded, drawn, closed, blockOf, noBlock, routeless};
+ghost use Rattle.model.specs.Process.{valuesOf, glided, ticked, rowed, sounded, chunkStep, chunkSteps, blockOf, noBlock};
 ghost use Rattle.input.specs.Scene.{envOf};
 ghost use Rattle.opening.specs.Codes.{countsOf, codeBy};
 ghost use Rattle.opening.specs.Draws.{drawnRoutes};
-ghost use Rattle.block.specs.Room.{Room, Keeps};
+ghost use Rattle.block.specs.Room.{Room, Keeps, audioSize};
+ghost use Rattle.block.specs.Worlds.{loadedWorld, drawnWorld, closedWorld, routelessWorld, routedWorld, runWorld};
 ghost use Rattle.block.specs.Scenes.{sceneOf, workOf, drawnOf};
-use config::FRAMES;
 use config::PERIOD;
 use config::SLOTS;
 use config::SOURCES;
+use config::FRAMES;
 use config::VOICES;
 use input::Scene;
 use opening::Counts;
@@ -205,7 +206,7 @@ pub fn sounded(
     tables: &[f32],
     samples: &[f32],
 )
-    requires { ⌜ chunk .start + chunk .len ≤ frameCount state ⌝ }
+    requires { ⌜ (chunk .start + chunk .len ≤ frameCount state) × (audioSize state ≤ length (now audio)) ⌝ }
     ensures { λ _. ⌜ worldOf state (now (held .entry)) (now (globals .entry)) (now (bases .entry)) (now (values .exit)) (now (audio .exit)) (now (tables .entry)) ≡ sounded (now (samples .entry)) signals chunk snap (worldOf state (now (held .entry)) (now (globals .entry)) (now (bases .entry)) (now (values .entry)) (now (audio .entry)) (now (tables .entry))) ⌝ }
 {
     let work = work_of(state, chunk, snap, signals);
@@ -236,26 +237,8 @@ pub fn glided(held: &mut [f32], state: State, frames: usize) -> State
     let n = opening::at_most(config.voices, VOICES);
     let velocity_next = velocity.advance(frames);
     let key_next = key.advance(frames);
-    opening::moved_held(
-        held,
-        mark,
-        NoteValue::Velocity,
-        stride,
-        sources,
-        n,
-        velocity,
-        velocity_next,
-    );
-    opening::moved_held(
-        held,
-        mark,
-        NoteValue::Key,
-        stride,
-        sources,
-        n,
-        key,
-        key_next,
-    );
+    opening::moved_held(held, mark, NoteValue::Velocity, stride, sources, n, velocity, velocity_next);
+    opening::moved_held(held, mark, NoteValue::Key, stride, sources, n, key, key_next);
     let mut next = state;
     next.velocity = velocity_next;
     next.key = key_next;
@@ -286,7 +269,7 @@ pub fn chunk_step(
     samples: &[f32],
     signals: Signals,
 ) -> State
-    requires { ⌜ Room state (length (now held)) (length (now values)) × (i < chunksMost state) × (chunk .start + chunk .len ≤ frameCount state) ⌝ }
+    requires { ⌜ Room state (length (now held)) (length (now values)) (length (now audio)) × (i < chunksMost state) × (chunk .start + chunk .len ≤ frameCount state) ⌝ }
     ensures { λ r. ⌜ (worldOf r (now (held .exit)) (now (globals .entry)) (now (bases .entry)) (now (values .exit)) (now (audio .exit)) (now (tables .entry)) ≡ chunkStep (now (samples .entry)) signals i chunk (worldOf state (now (held .entry)) (now (globals .entry)) (now (bases .entry)) (now (values .entry)) (now (audio .entry)) (now (tables .entry)))) × Keeps state r ⌝ }
 {
     let marks = state.marks;
@@ -333,7 +316,7 @@ pub fn chunk_steps(
     samples: &[f32],
     signals: Signals,
 ) -> State
-    requires { ⌜ Room state (length (now held)) (length (now values)) × (block .end ≤ frameCount state) ⌝ }
+    requires { ⌜ Room state (length (now held)) (length (now values)) (length (now audio)) × (block .end ≤ frameCount state) ⌝ }
     ensures { λ r. ⌜ worldOf r (now (held .exit)) (now (globals .entry)) (now (bases .entry)) (now (values .exit)) (now (audio .exit)) (now (tables .entry)) ≡ chunkSteps (now (samples .entry)) signals block (chunkTotal block) (worldOf state (now (held .entry)) (now (globals .entry)) (now (bases .entry)) (now (values .entry)) (now (audio .entry)) (now (tables .entry))) ⌝ }
 {
     let n = chunk::total(block);
@@ -365,7 +348,7 @@ pub fn chunk_steps(
 // The load of the voices, where globals hold it.
 pub fn loaded(globals: &mut [f32], state: State)
     requires { ⌜ engineSources state ≤ length (now globals) ⌝ }
-    ensures { λ _. ⌜ ((h a v b t : List Float) → worldOf state h (now (globals .exit)) a v b t ≡ loaded (worldOf state h (now (globals .entry)) a v b t)) ⌝ }
+    ensures { λ _. ⌜ ((h a v b t : List Float) → worldOf state h (now (globals .exit)) a v b t ≡ loadedWorld (worldOf state h (now (globals .entry)) a v b t)) ⌝ }
 {
     let config = state.config;
     let mark = state.mark;
@@ -390,23 +373,13 @@ fn drawn_after(values: &mut [f32], state: State) -> u64
     let n = opening::at_most(config.voices, VOICES);
     let stride = config::lane_stride(config.voices);
     let chunks = config::most_chunks(config.max_frames);
-    opening::draw_routes(
-        values,
-        route,
-        routes,
-        renoted,
-        n,
-        stride,
-        chunks,
-        plans,
-        state.draw,
-    )
+    opening::draw_routes(values, route, routes, renoted, n, stride, chunks, plans, state.draw)
 }
 
 // The draws of a block in which a voice was renoted.
 pub fn drawn(values: &mut [f32], state: State) -> State
     requires { ⌜ valuesOf state ≤ length (now values) ⌝ }
-    ensures { λ r. ⌜ ((h g a b t : List Float) → worldOf r h g a (now (values .exit)) b t ≡ drawn (worldOf state h g a (now (values .entry)) b t)) × Keeps state r ⌝ }
+    ensures { λ r. ⌜ ((h g a b t : List Float) → worldOf r h g a (now (values .exit)) b t ≡ drawnWorld (worldOf state h g a (now (values .entry)) b t)) × Keeps state r ⌝ }
 {
     let marks = state.marks;
     if !marks.any_renoted {
@@ -420,7 +393,7 @@ pub fn drawn(values: &mut [f32], state: State) -> State
 
 // The end of a block of so many frames: the phase moves, the marks clear, and the block is the last.
 pub fn closed(state: State, block: Block, len: usize) -> State
-    ensures { λ r. ⌜ ((h g a v b t : List Float) → worldOf r h g a v b t ≡ closed block len (worldOf state h g a v b t)) ⌝ }
+    ensures { λ r. ⌜ ((h g a v b t : List Float) → worldOf r h g a v b t ≡ closedWorld block len (worldOf state h g a v b t)) ⌝ }
 {
     let phase = state.phase % PERIOD;
     let moved = (phase + len % PERIOD) % PERIOD;
@@ -461,11 +434,82 @@ fn no_block() -> Block
 // A block of so many frames without routes.
 pub fn routeless(held: &mut [f32], state: State, len: usize) -> State
     requires { ⌜ strideOf state * engineSources state ≤ length (now held) ⌝ }
-    ensures { λ r. ⌜ ((g a v b t : List Float) → worldOf r (now (held .exit)) g a v b t ≡ routeless len (worldOf state (now (held .entry)) g a v b t)) ⌝ }
+    ensures { λ r. ⌜ ((g a v b t : List Float) → worldOf r (now (held .exit)) g a v b t ≡ routelessWorld len (worldOf state (now (held .entry)) g a v b t)) ⌝ }
 {
     let moved = glided(held, state, len);
     let block = no_block();
     closed(moved, block, len)
+}
+
+// A block with routes.
+pub fn routed(
+    state: State,
+    held: &mut [f32],
+    globals: &mut [f32],
+    bases: &[f32],
+    values: &mut [f32],
+    audio: &mut [f32],
+    tables: &[f32],
+    samples: &[f32],
+    signals: Signals,
+    start: usize,
+    end: usize,
+) -> State
+    requires { ⌜ Room state (length (now held)) (length (now values)) (length (now audio)) × (engineSources state ≤ length (now globals)) × (start < end) × (end ≤ frameCount state) ⌝ }
+    ensures { λ r. ⌜ worldOf r (now (held .exit)) (now (globals .exit)) (now (bases .entry)) (now (values .exit)) (now (audio .exit)) (now (tables .entry)) ≡ routedWorld (now (samples .entry)) signals start end (worldOf state (now (held .entry)) (now (globals .entry)) (now (bases .entry)) (now (values .entry)) (now (audio .entry)) (now (tables .entry))) ⌝ }
+{
+    let block = block_of(state, start, end);
+    loaded(globals, state);
+    let ready = drawn(values, state);
+    let moved = chunk_steps(
+        ready,
+        block,
+        held,
+        globals,
+        bases,
+        values,
+        audio,
+        tables,
+        samples,
+        signals,
+    );
+    closed(moved, block, end - start)
+}
+
+// A block of a nonempty range.
+pub fn run(
+    state: State,
+    held: &mut [f32],
+    globals: &mut [f32],
+    bases: &[f32],
+    values: &mut [f32],
+    audio: &mut [f32],
+    tables: &[f32],
+    samples: &[f32],
+    signals: Signals,
+    start: usize,
+    end: usize,
+) -> State
+    requires { ⌜ Room state (length (now held)) (length (now values)) (length (now audio)) × (engineSources state ≤ length (now globals)) × (start < end) × (end ≤ frameCount state) ⌝ }
+    ensures { λ r. ⌜ worldOf r (now (held .exit)) (now (globals .exit)) (now (bases .entry)) (now (values .exit)) (now (audio .exit)) (now (tables .entry)) ≡ runWorld (now (samples .entry)) signals start end (worldOf state (now (held .entry)) (now (globals .entry)) (now (bases .entry)) (now (values .entry)) (now (audio .entry)) (now (tables .entry))) ⌝ }
+{
+    let program = state.program;
+    if program.routes == 0 {
+        return routeless(held, state, end - start);
+    }
+    routed(
+        state,
+        held,
+        globals,
+        bases,
+        values,
+        audio,
+        tables,
+        samples,
+        signals,
+        start,
+        end,
+    )
 }
 
 // The number by which a block up to frame `end` is refused, or 0.

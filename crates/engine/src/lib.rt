@@ -8,6 +8,7 @@ ghost use mathlib.Core.Bool.{not, _||_};
 ghost use Rattle.model.specs.NoteCalls.{newNote, noteFinite, noteOn, noteOff, voiceEnded, isActive};
 ghost use Rattle.noting.specs.Noting.{Inside, soundOn, heldOn};
 ghost use Rattle.noting.specs.Parts.{soundingOf, stateWith};
+ghost use Rattle.model.specs.Process.{process};
 ghost use Rattle.engine.specs.Noting.{noteOf, settingBy};
 use config::Config;
 use config::SIGNAL_STRIDE;
@@ -16,6 +17,7 @@ use noting::Lane;
 use noting::RELEASE;
 use noting::Setting;
 use noting::Sounding;
+use opening::Lengths;
 use state::Bound;
 use state::ChunkRead;
 use state::Destinations;
@@ -500,6 +502,64 @@ impl Engine {
             code: 0,
             on: voices.is_active(voice),
         }
+    }
+}
+
+// ---- a block (engine.rs 547-611, 756-769, 804-1011)
+
+impl Engine {
+    // The block of the frames from `start` up to `end`.
+    pub fn process(
+        self,
+        held: &mut [f32],
+        globals: &mut [f32],
+        bases: &[f32],
+        values: &mut [f32],
+        audio: &mut [f32],
+        tables: &[f32],
+        samples: &[f32],
+        signals: Signals,
+        start: usize,
+        end: usize,
+    ) -> Done
+        ensures answer { λ r. ⌜ (r .code ≡ process (worldOf (self .state) (now (held .entry)) (now (globals .entry)) (now (bases .entry)) (now (values .entry)) (now (audio .entry)) (now (tables .entry))) (now (samples .entry)) signals start end .code) × (r .engine .state ≡ process (worldOf (self .state) (now (held .entry)) (now (globals .entry)) (now (bases .entry)) (now (values .entry)) (now (audio .entry)) (now (tables .entry))) (now (samples .entry)) signals start end .world .state) ⌝ }
+        ensures lent { λ _. ⌜ (now (held .exit) ≡ process (worldOf (self .state) (now (held .entry)) (now (globals .entry)) (now (bases .entry)) (now (values .entry)) (now (audio .entry)) (now (tables .entry))) (now (samples .entry)) signals start end .world .held) × ((now (globals .exit) ≡ process (worldOf (self .state) (now (held .entry)) (now (globals .entry)) (now (bases .entry)) (now (values .entry)) (now (audio .entry)) (now (tables .entry))) (now (samples .entry)) signals start end .world .globals) × ((now (values .exit) ≡ process (worldOf (self .state) (now (held .entry)) (now (globals .entry)) (now (bases .entry)) (now (values .entry)) (now (audio .entry)) (now (tables .entry))) (now (samples .entry)) signals start end .world .values) × (now (audio .exit) ≡ process (worldOf (self .state) (now (held .entry)) (now (globals .entry)) (now (bases .entry)) (now (values .entry)) (now (audio .entry)) (now (tables .entry))) (now (samples .entry)) signals start end .world .audio))) ⌝ }
+    {
+        let state = self.state;
+        let lent = Lengths {
+            held: held.len(),
+            globals: globals.len(),
+            bases: bases.len(),
+            values: values.len(),
+            audio: audio.len(),
+            tables: tables.len(),
+            samples: samples.len(),
+        };
+        let code = block::code(state, lent, signals, end);
+        if code != 0 {
+            return Done { code, engine: self };
+        }
+        if end <= start {
+            return Done {
+                code: 0,
+                engine: self,
+            };
+        }
+        let next = block::run(
+            state,
+            held,
+            globals,
+            bases,
+            values,
+            audio,
+            tables,
+            samples,
+            signals,
+            start,
+            end,
+        );
+        let engine = Engine { state: next };
+        Done { code: 0, engine }
     }
 }
 

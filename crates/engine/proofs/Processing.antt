@@ -1,0 +1,65 @@
+-- What `process` answers, from what its helpers ensure. Assumes nothing.
+use mathlib.Core.Path.{_≡_, refl, sym, ap, _∙_}
+use mathlib.Core.Logic.{_≢_}
+use mathlib.Core.Bool.{Bool, true, false, cond, _&&_}
+use mathlib.Core.List.{List}
+use Prim.Native.Nat.{ℕ, _≤_, _<_}
+use borrow.Author.Tests.{lt-ltb, le-ltb, ne-eqb}
+use lib.Dec.{eqb, ltb}
+use lib.Ieee.{Float}
+use Rattle.judge.specs.Judge.{judged}
+use Rattle.state.specs.declared.Signals.{Signals}
+use Rattle.state.specs.declared.State.{State}
+use Rattle.model.specs.World.{World, worldOf}
+use Rattle.model.specs.Process.{Processed, processRows, run, process}
+use Rattle.opening.specs.Codes.{countsOf, lengthsOf, codeBy}
+use Rattle.opening.proofs.Codes.{code-of-block}
+use Rattle.block.specs.Worlds.{runWorld}
+use Rattle.block.proofs.Blocks.{run-is}
+
+-- what a call leaves, as its answer and the lent memories have it
+abbrev pub Leaves : Processed → ℕ → State → List Float → List Float → List Float → List Float → Type 0
+Leaves p code st held globals values audio =
+    ((code ≡ p .code) × (st ≡ p .world .state))
+    × ((held ≡ p .world .held) × ((globals ≡ p .world .globals) × ((values ≡ p .world .values) × (audio ≡ p .world .audio))))
+
+leaves : (p : Processed) (code : ℕ) (w : World) → record { code = code; world = w } ≡ p → Leaves p code (w .state) (w .held) (w .globals) (w .values) (w .audio)
+leaves p code w e =
+    (
+      (ap (λ (x : Processed). x .code) e, ap (λ (x : Processed). x .world .state) e),
+      (ap (λ (x : Processed). x .world .held) e, (ap (λ (x : Processed). x .world .globals) e, (ap (λ (x : Processed). x .world .values) e, ap (λ (x : Processed). x .world .audio) e))),
+    )
+
+module _ (st : State) (h g a v b t samples : List Float) (signals : Signals) (start end : ℕ) (code : ℕ)
+    (e : code ≡ codeBy (countsOf st) (lengthsOf (worldOf st h g a v b t) samples) (signals .part) end)
+  where
+    abbrev before : World
+    before = worldOf st h g a v b t
+
+    abbrev call : Processed
+    call = process (worldOf st h g a v b t) samples signals start end
+
+    abbrev by : ℕ → Bool → Processed
+    by k some = record { code = k; world = cond (eqb k 0 && some) (run samples signals start end before) before }
+
+    by-is : (k : ℕ) → k ≡ code → by k (ltb start end) ≡ call
+    unfolding process
+    by-is k f = ap (λ (n : ℕ). by n (ltb start end)) (f ∙ e ∙ code-of-block before samples signals end)
+
+    pub process-refused : code ≢ 0 → Leaves call code st h g v b
+    process-refused n = let no : eqb code 0 ≡ false = ne-eqb code 0 n in 
+        let shut : _≡_ {A = Processed} (record { code = code; world = before }) (by code (ltb start end)) = rw no in
+        leaves call code before (shut ∙ by-is code refl)
+
+    pub process-empty : code ≡ 0 → end ≤ start → Leaves call 0 st h g v b
+    process-empty z n = 
+        let no : ltb start end ≡ false = le-ltb start end n in
+        let made : by 0 false ≡ call = ap (by 0) (sym no) ∙ by-is 0 (sym z) in
+        leaves call 0 before made
+
+    pub process-run : code ≡ 0 → start < end → (next : State) (h′ g′ v′ b′ : List Float) → worldOf next h′ g′ a v′ b′ t ≡ runWorld samples signals start end before
+        → Leaves call 0 next h′ g′ v′ b′
+    process-run z n next h′ g′ v′ b′ f =
+        let yes : ltb start end ≡ true = lt-ltb start end n in
+        let made : by 0 true ≡ call = ap (by 0) (sym yes) ∙ by-is 0 (sym z) in
+        leaves call 0 (worldOf next h′ g′ a v′ b′ t) (ap (λ (w : World). record { code = 0; world = w }) (f ∙ run-is samples signals start end before) ∙ made)
