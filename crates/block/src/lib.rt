@@ -21,10 +21,10 @@ ghost use Rattle.opening.specs.Draws.{drawnRoutes};
 ghost use Rattle.block.specs.Room.{Room, Keeps, audioSize};
 ghost use Rattle.block.specs.Worlds.{loadedWorld, drawnWorld, closedWorld, routelessWorld, routedWorld, runWorld};
 ghost use Rattle.block.specs.Scenes.{sceneOf, workOf, drawnOf};
+use config::FRAMES;
 use config::PERIOD;
 use config::SLOTS;
 use config::SOURCES;
-use config::FRAMES;
 use config::VOICES;
 use input::Scene;
 use opening::Counts;
@@ -237,8 +237,26 @@ pub fn glided(held: &mut [f32], state: State, frames: usize) -> State
     let n = opening::at_most(config.voices, VOICES);
     let velocity_next = velocity.advance(frames);
     let key_next = key.advance(frames);
-    opening::moved_held(held, mark, NoteValue::Velocity, stride, sources, n, velocity, velocity_next);
-    opening::moved_held(held, mark, NoteValue::Key, stride, sources, n, key, key_next);
+    opening::moved_held(
+        held,
+        mark,
+        NoteValue::Velocity,
+        stride,
+        sources,
+        n,
+        velocity,
+        velocity_next,
+    );
+    opening::moved_held(
+        held,
+        mark,
+        NoteValue::Key,
+        stride,
+        sources,
+        n,
+        key,
+        key_next,
+    );
     let mut next = state;
     next.velocity = velocity_next;
     next.key = key_next;
@@ -373,7 +391,17 @@ fn drawn_after(values: &mut [f32], state: State) -> u64
     let n = opening::at_most(config.voices, VOICES);
     let stride = config::lane_stride(config.voices);
     let chunks = config::most_chunks(config.max_frames);
-    opening::draw_routes(values, route, routes, renoted, n, stride, chunks, plans, state.draw)
+    opening::draw_routes(
+        values,
+        route,
+        routes,
+        renoted,
+        n,
+        stride,
+        chunks,
+        plans,
+        state.draw,
+    )
 }
 
 // The draws of a block in which a voice was renoted.

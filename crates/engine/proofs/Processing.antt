@@ -24,11 +24,10 @@ Leaves p code st held globals values audio =
     × ((held ≡ p .world .held) × ((globals ≡ p .world .globals) × ((values ≡ p .world .values) × (audio ≡ p .world .audio))))
 
 leaves : (p : Processed) (code : ℕ) (w : World) → record { code = code; world = w } ≡ p → Leaves p code (w .state) (w .held) (w .globals) (w .values) (w .audio)
-leaves p code w e =
-    (
-      (ap (λ (x : Processed). x .code) e, ap (λ (x : Processed). x .world .state) e),
-      (ap (λ (x : Processed). x .world .held) e, (ap (λ (x : Processed). x .world .globals) e, (ap (λ (x : Processed). x .world .values) e, ap (λ (x : Processed). x .world .audio) e))),
-    )
+leaves p code w e = (
+  (ap (λ (x : Processed). x .code) e, ap (λ (x : Processed). x .world .state) e),
+  (ap (λ (x : Processed). x .world .held) e, (ap (λ (x : Processed). x .world .globals) e, (ap (λ (x : Processed). x .world .values) e, ap (λ (x : Processed). x .world .audio) e))),
+)
 
 module _ (st : State) (h g a v b t samples : List Float) (signals : Signals) (start end : ℕ) (code : ℕ)
     (e : code ≡ codeBy (countsOf st) (lengthsOf (worldOf st h g a v b t) samples) (signals .part) end)
@@ -47,12 +46,12 @@ module _ (st : State) (h g a v b t samples : List Float) (signals : Signals) (st
     by-is k f = ap (λ (n : ℕ). by n (ltb start end)) (f ∙ e ∙ code-of-block before samples signals end)
 
     pub process-refused : code ≢ 0 → Leaves call code st h g v b
-    process-refused n = let no : eqb code 0 ≡ false = ne-eqb code 0 n in 
+    process-refused n = let no : eqb code 0 ≡ false = ne-eqb code 0 n in
         let shut : _≡_ {A = Processed} (record { code = code; world = before }) (by code (ltb start end)) = rw no in
         leaves call code before (shut ∙ by-is code refl)
 
     pub process-empty : code ≡ 0 → end ≤ start → Leaves call 0 st h g v b
-    process-empty z n = 
+    process-empty z n =
         let no : ltb start end ≡ false = le-ltb start end n in
         let made : by 0 false ≡ call = ap (by 0) (sym no) ∙ by-is 0 (sym z) in
         leaves call 0 before made

@@ -12,20 +12,20 @@ ticked-requires : tie.Need-ticked-requires
 ticked-requires c κs = search needs
 
 rowed-requires : tie.Need-rowed-requires
-rowed-requires c κs = 
+rowed-requires c κs =
     let o = c .before .before .before .before .before .before .before .before .before .before .before .before .before .before .before in
     let t = c .before .before .before in
     let k = t .ticked .ensures .1 in
     (omega (arith, chunks-kept k, o .pre .1), omega (arith, values-kept k, o .pre .0 .values))
 
 sounded-requires : tie.Need-sounded-requires
-sounded-requires c κs = 
+sounded-requires c κs =
     let o = c .before .before .before .before .before .before .before .before .before .before .before .before .before .before .before .before .before .before .before .before .before in
     let k = c .before .before .before .before .before .before .before .before .before .ticked .ensures .1 in
     (omega (arith, frames-kept k, o .pre .2), omega (arith, audio-kept k, o .pre .0 .audio))
 
 glided-requires : tie.Need-glided-requires
-glided-requires c κs = 
+glided-requires c κs =
     let o = c .before .before .before .before .before .before .before .before .before .before .before .before .before .before .before .before .before .before .before .before .before .before .before .before .before .before .before in
     let k = c .before .before .before .before .before .before .before .before .before .before .before .before .before .before .before .ticked .ensures .1 in
     omega (arith, sources-kept k, o .pre .0 .held)
@@ -34,7 +34,7 @@ same-length : tie.Need-same-length
 same-length c = search needs
 
 same-length-2 : tie.Need-same-length-2
-same-length-2 c = 
+same-length-2 c =
     let t = c .before .before .before .before .before .before .before .before .before .before .before .before .before .before .before .before in
     let r = c .before .before .before .before .before .before .before .before .before .before .before .before in
     let s = c .before .before .before .before in
@@ -44,7 +44,7 @@ same-length-3 : tie.Need-same-length-3
 same-length-3 c = search needs
 
 returns : tie.Need-returns
-returns c = 
+returns c =
     let a = c .before .before .before .before .before .before .before .before .before .before .before .before .before .before .before .before .before .before .before .before .before .before .before .before .before .before .before .before .before .before .args in
     let t = c .before .before .before .before .before .before .before .before .before .before .before .before .before .before .before .before .before .before .ticked .ensures in
     let g = c .before .before .glided .ensures in

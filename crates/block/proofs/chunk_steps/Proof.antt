@@ -30,7 +30,7 @@ of-requires : tie.Need-of-requires Inv-loop μ-loop
 of-requires c κs = omega (arith, c .before .before .total .ensures, c .loop-test .taken)
 
 chunk-step-requires : tie.Need-chunk-step-requires Inv-loop μ-loop
-chunk-step-requires c κs = 
+chunk-step-requires c κs =
     let o = c .before .before .before .before .before .before .before .before .before .before .before .before .before .before in
     let l = c .before .before .before .before .before .loop in
     step-ready (l .inv .4) (o .args .block) (l .i) _ _ _ _ _ _ _ (l .inv .1) (l .inv .2) (l .inv .3) (o .pre .0) (o .pre .1) (omega (arith, c .before .before .before .before .before .before .total .ensures, c .before .before .before .before .loop-test .taken)) (c .before .before .before .of .ensures)
@@ -42,7 +42,7 @@ loop-less : tie.Need-loop-less Inv-loop μ-loop
 loop-less c = search needs
 
 loop-again : tie.Need-loop-again Inv-loop μ-loop
-loop-again c = 
+loop-again c =
     let l = c .before .before .before .before .before .before .before .before .before .before .before .before .loop in
     let k = c .before .before .before .before .before .before .chunk-step in
     (omega (arith, c .before .before .before .before .before .before .before .before .before .before .before .loop-test .taken), search needs, search needs, search needs, keeps-on (l .inv .4) (k .ensures .1), steps-more _ _ _ _ (l .i) _ _ _ (l .inv .5) (c .before .before .before .before .before .before .before .before .before .before .of .ensures) (k .ensures .0))

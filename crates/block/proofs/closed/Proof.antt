@@ -14,7 +14,7 @@ cleared-requires c κs = search needs
 
 returns : tie.Need-returns
 unfolding withPhase withMarks withBlock
-returns c = 
+returns c =
     let a = c .before .before .before .args in
     λ h g d v b t. closed-is (a .state) h g d v b t (a .block) (a .len) _ _ refl (c .cleared .ensures)
 

@@ -8,7 +8,7 @@ use Rattle.block.proofs.drawn.Statement.{statement}
 use Rattle.block.proofs.drawn.Tie as tie
 
 returns : tie.Need-returns
-returns c = 
+returns c =
     let a = c .before .before .before .before .args in
     (λ h g d b t. drawn-not (a .state) h g d (a .values .now) b t (not-true _ (c .if1 .taken)), keeps-self (a .state))
 
@@ -20,7 +20,7 @@ same-length c = search needs
 
 returns-2 : tie.Need-returns-2
 unfolding withDraw
-returns-2 c = 
+returns-2 c =
     let a = c .before .before .before .before .before .before .before .before .args in
     (λ h g d b t. drawn-is (a .state) h g d (a .values .now) b t (not-false _ (c .before .before .before .before .if1 .left)) _ _ (c .before .before .drawn-after .ensures), drawn-keeps (a .state) (c .before .before .drawn-after .result))
 

@@ -20,7 +20,7 @@ most-chunks-requires : tie.Need-most-chunks-requires
 most-chunks-requires c κs = search needs
 
 draw-routes-requires : tie.Need-draw-routes-requires
-draw-routes-requires c κs = 
+draw-routes-requires c κs =
     let o = c .before .before .before .before .before .before .before .before .before .before .before .before in
     draws-fit (o .args .state) _ _ _ _ _ _ (c .before .before .before .before .before .at-most .ensures) (c .before .before .before .before .at-most2 .ensures) (c .before .before .before .at-most3 .ensures) (c .before .before .lane-stride .ensures) (c .before .most-chunks .ensures) (o .pre)
 
@@ -28,7 +28,7 @@ same-length : tie.Need-same-length
 same-length c = search needs
 
 returns : tie.Need-returns
-returns c = 
+returns c =
     let a = c .before .before .before .before .before .before .before .before .before .before .before .before .before .before .before .args in
     draws-are (a .state) _ _ _ _ _ (a .values .now) _ (c .before .before .before .before .before .before .before .before .at-most .ensures) (c .before .before .before .before .before .before .before .at-most2 .ensures) (c .before .before .before .before .before .before .at-most3 .ensures) (c .before .before .before .before .before .lane-stride .ensures) (c .before .before .before .before .most-chunks .ensures) (c .before .before .draw-routes .ensures)
 

@@ -22,12 +22,12 @@ advance-requires-2 : tie.Need-advance-requires-2
 advance-requires-2 c κs = search needs
 
 moved-held-requires : tie.Need-moved-held-requires
-moved-held-requires c κs = 
+moved-held-requires c κs =
     let o = c .before .before .before .before .before .before .before .before .before .before .before in
     held-fit (o .args .state) _ _ _ _ (c .before .before .before .before .before .lane-stride .ensures) (c .before .before .before .before .at-most .ensures) (c .before .before .before .at-most2 .ensures) (o .pre)
 
 moved-held-requires-2 : tie.Need-moved-held-requires-2
-moved-held-requires-2 c κs = 
+moved-held-requires-2 c κs =
     let o = c .before .before .before .before .before .before .before .before .before .before .before .before .before .before .before in
     held-fit (o .args .state) _ _ _ _ (c .before .before .before .before .before .before .before .before .before .lane-stride .ensures) (c .before .before .before .before .before .before .before .before .at-most .ensures) (c .before .before .before .before .before .before .before .at-most2 .ensures) (omega (arith, o .pre))
 
@@ -36,7 +36,7 @@ same-length c = search needs
 
 returns : tie.Need-returns
 unfolding withVelocity withKey
-returns c = 
+returns c =
     let a = c .before .before .before .before .before .before .before .before .before .before .before .before .before .before .before .before .before .before .args in (
       λ g d v b t. glided-is (a .frames) (a .state) (a .held .now) g d v b t _ _ _ _ _ _ _ (c .before .before .before .before .before .before .before .before .before .before .before .before .lane-stride .ensures) (c .before .before .before .before .before .before .before .before .before .before .before .at-most .ensures) (c .before .before .before .before .before .before .before .before .before .before .at-most2 .ensures) (c .before .before .before .before .before .before .before .before .before .advance .ensures) (c .before .before .before .before .before .before .before .before .advance2 .ensures) (c .before .before .before .before .before .before .moved-held .ensures) (c .before .before .moved-held2 .ensures),
       glided-keeps (a .state) (c .before .before .before .before .before .before .before .before .before .advance .result) (c .before .before .before .before .before .before .before .before .advance2 .result),

@@ -17,7 +17,7 @@ same-length : tie.Need-same-length
 same-length c = search needs
 
 returns : tie.Need-returns
-returns c = 
+returns c =
     let a = c .before .before .before .before .before .before .before .before .before .before .args in
     λ h d v b t. loaded-is (a .state) h (a .globals .now) d v b t _ _ _ (c .before .before .before .before .before .at-most .ensures) (c .before .before .before .before .load-value .ensures) (c .before .before .set-load .ensures)
 

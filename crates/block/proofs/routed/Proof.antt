@@ -15,7 +15,7 @@ drawn-requires : tie.Need-drawn-requires
 drawn-requires c κs = search needs
 
 chunk-steps-requires : tie.Need-chunk-steps-requires
-chunk-steps-requires c κs = 
+chunk-steps-requires c κs =
     let o = c .before .before .before .before .before .before .before .before .before .before .before .before .before .before .before .before .before .before .before .before in
     let d = c .before .before .before .before .before .before in
     let s = c .before .before .before .before in
@@ -31,12 +31,12 @@ same-length : tie.Need-same-length
 same-length c = search needs
 
 same-length-2 : tie.Need-same-length-2
-same-length-2 c = 
+same-length-2 c =
     let l = c .before .before .before .before .before .before .before .before .before .before .before .before .before .before .before .before in
     search needs
 
 same-length-3 : tie.Need-same-length-3
-same-length-3 c = 
+same-length-3 c =
     let d = c .before .before .before .before .before .before .before .before .before .before .before .before in
     let k = c .before in
     let j = c .before .before .before in
@@ -46,7 +46,7 @@ same-length-4 : tie.Need-same-length-4
 same-length-4 c = search needs
 
 returns : tie.Need-returns
-returns c = 
+returns c =
     let a = c .before .before .before .before .before .before .before .before .before .before .before .before .before .before .before .before .before .before .before .before .before .before .before .before .before .before .before .before .args in
     routed-is (a .samples .now) (a .signals) (a .start) (a .end) _ _ _ _ _ _ (c .before .before .before .before .before .before .before .before .before .before .before .before .before .before .before .before .before .before .before .before .block-of .ensures) (c .before .before .before .before .before .before .before .before .before .before .before .before .before .before .before .before .before .before .loaded .ensures _ _ _ _ _) (c .before .before .before .before .before .before .before .before .before .before .before .before .before .before .drawn .ensures .0 _ _ _ _ _) (c .before .before .before .before .before .before .before .chunk-steps .ensures) (c .closed .ensures _ _ _ _ _ _)
 

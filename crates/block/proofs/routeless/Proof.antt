@@ -17,7 +17,7 @@ same-length : tie.Need-same-length
 same-length c = search needs
 
 returns : tie.Need-returns
-returns c = 
+returns c =
     let a = c .before .before .before .before .before .before .before .args in
     λ g d v b t. routeless-is (a .len) _ _ _ _ (c .before .no-block .ensures) (c .before .before .before .before .glided .ensures .0 g d v b t) (c .closed .ensures _ g d v b t)
 

@@ -17,7 +17,7 @@ most-chunks-requires : tie.Need-most-chunks-requires
 most-chunks-requires c κs = search needs
 
 rows-of-chunk-requires : tie.Need-rows-of-chunk-requires
-rows-of-chunk-requires c κs = 
+rows-of-chunk-requires c κs =
     let o = c .before .before .before .before .before .before .before .before .before in
     rows-fit (o .args .state) (o .args .i) _ _ _ _ _ (c .before .before .lane-stride .ensures) (c .before .most-chunks .ensures) (c .before .before .before .before .at-most .ensures) (c .before .before .before .at-most2 .ensures) (o .pre .0) (o .pre .1)
 
@@ -25,7 +25,7 @@ same-length : tie.Need-same-length
 same-length c = search needs
 
 returns : tie.Need-returns
-returns c = 
+returns c =
     let a = c .before .before .before .before .before .before .before .before .before .before .before .before .args in
     λ h g d b t.
     rowed-is (a .state) (a .i) h g d (a .values .now) b t _ _ _ _ _ (c .before .before .before .before .before .before .before .at-most .ensures) (c .before .before .before .before .before .before .at-most2 .ensures) (c .before .before .before .before .before .lane-stride .ensures) (c .before .before .before .before .most-chunks .ensures) (c .before .before .rows-of-chunk .ensures)

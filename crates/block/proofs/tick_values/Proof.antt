@@ -20,7 +20,7 @@ scene-of-requires : tie.Need-scene-of-requires
 scene-of-requires c κs = search needs
 
 tick-requires : tie.Need-tick-requires
-tick-requires c κs = 
+tick-requires c κs =
     let a = c .before .before .before .before .before .before .before .before .before .before .before .before .before .before .before .args in
     let s = c .before .scene-of in
     (scene-fits (a .state) (a .chunk) (a .snap) (a .signals) (s .result) (s .ensures) _ _ (c .before .before .most-chunks .ensures) (c .before .before .before .before .at-most .ensures), omega (arith, c .before .before .before .at-most2 .ensures))
@@ -29,7 +29,7 @@ same-length : tie.Need-same-length
 same-length c = search needs
 
 returns : tie.Need-returns
-returns c = 
+returns c =
     let a = c .before .before .before .before .before .before .before .before .before .before .before .before .before .before .before .before .before .before .args in
     let s = c .before .before .before .before .scene-of in
     let t = envOf (sceneOf (a .state) (a .chunk) (a .snap)) (a .held .now) (a .globals .now) (a .bases .now) (a .tables .now) (a .samples .now) (a .signals) in

@@ -7,7 +7,7 @@ use Rattle.block.proofs.ticked.Statement.{statement}
 use Rattle.block.proofs.ticked.Tie as tie
 
 returns : tie.Need-returns
-returns c = 
+returns c =
     let a = c .before .before .before .before .before .before .before .before .args in
     (λ b. ticked-not (a .state) (a .chunk) (a .snap) (a .signals) (a .samples .now) (a .held .now) (a .globals .now) (a .bases .now) (a .values .now) b (a .tables .now) (not-true _ (c .if1 .taken)), keeps-self (a .state))
 
@@ -19,7 +19,7 @@ same-length c = search needs
 
 returns-2 : tie.Need-returns-2
 unfolding withPrimed
-returns-2 c = 
+returns-2 c =
     let a = c .before .before .before .before .before .before .before .before .before .before .before .before .args in
     (λ b. ticked-is (a .state) (a .chunk) (a .snap) (a .signals) (a .samples .now) (a .held .now) (a .globals .now) (a .bases .now) (a .values .now) b (a .tables .now) (not-false _ (c .before .before .before .before .if1 .left)) _ (c .before .before .tick-values .ensures), primed-keeps (a .state))
 
