@@ -9,7 +9,9 @@ ghost use Rattle.model.specs.NoteCalls.{newNote, noteFinite, noteOn, noteOff, v
 ghost use Rattle.noting.specs.Noting.{Inside, soundOn, heldOn};
 ghost use Rattle.noting.specs.Parts.{soundingOf, stateWith};
 ghost use Rattle.model.specs.Process.{process};
+ghost use Rattle.model.specs.States.{withDraw};
 ghost use Rattle.engine.specs.Noting.{noteOf, settingBy};
+ghost use Rattle.engine.specs.Shown.{engineState};
 use config::Config;
 use config::SIGNAL_STRIDE;
 use config::SOURCES;
@@ -130,6 +132,22 @@ impl Engine {
             engine,
             program: old,
         }
+    }
+
+    // The engine's state, to look at.
+    pub fn state(self) -> State
+        ensures { λ r. ⌜ r ≡ engineState (self .state) ⌝ }
+    {
+        self.state
+    }
+
+    // The state of the draws is this one.
+    pub fn with_draw(self, draw: u64) -> Engine
+        ensures { λ r. ⌜ r .state ≡ withDraw (self .state) draw ⌝ }
+    {
+        let mut state = self.state;
+        state.draw = draw;
+        Engine { state }
     }
 
     // The lane stride.
