@@ -17,10 +17,11 @@ use Rattle.state.specs.declared.Range.{Range}
 use Rattle.state.specs.declared.Source.{Source}
 use Rattle.state.specs.declared.Sources.{Sources}
 use Rattle.source.specs.declared.SourceFound.the-variants as F
-use Rattle.source.specs.Keys.{mostKeyBytes, keyOf, sameBytes, keyIs, keyArray}
+use Rattle.source.specs.Keys.{mostKeyBytes, keyOf, keyIs, keyArray}
+use Rattle.format.specs.Bytes.{sameBytes}
 use Rattle.state.specs.Registry.{sourceCount}
 use Rattle.source.specs.Registry.{registered, findKey, isAt, findSource, addRows, newEntry, withEntry, addedOr, addSource}
-use Rattle.source.proofs.Keys.{same-self}
+use Rattle.format.proofs.Bytes.{same-self}
 use Rattle.source.proofs.Registry.{registered-length, find-after, find-others}
 
 -- a key that may be added: no entry has it, there is room for an entry, and the entry has room for it

@@ -9,43 +9,10 @@ use lib.Dec.{eqb}
 use lib.ListN.{length, getD, take, drop, set, replicate, length-take}
 use lib.Seq.{drop-cons, drop-length, length-take-le, take-length, take-suc, set-at, getD-take}
 use borrow.Author.Tests.{eqb-true, eq-eqb}
+use Rattle.format.specs.Bytes.{sameBytes}
+use Rattle.format.proofs.Bytes.{same-lengths, same-from}
 use Rattle.state.specs.declared.Source.{Source}
-use Rattle.source.specs.Keys.{mostKeyBytes, keyLength, keyOf, sameBytes, keyIs, keyArray}
-
--- ---- the comparison
-
-pub same-self : (xs : List ℕ) → sameBytes xs xs ≡ true
-unfolding sameBytes
-same-self [] = refl
-same-self (x ∷ xs) = rw (eq-eqb x x refl) (same-self xs)
-
-both : (a b : Bool) → (a && b) ≡ true → (a ≡ true) × (b ≡ true)
-both true b h = (refl, h)
-both false b h = let z : _≡_ {A = ℕ} 0 1 = cc in absurd (omega arith)
-
-pub same-equal : (xs ys : List ℕ) → sameBytes xs ys ≡ true → xs ≡ ys
-unfolding sameBytes
-same-equal [] [] h = refl
-same-equal [] (y ∷ ys) h = let z : _≡_ {A = ℕ} 0 1 = cc in absurd (omega arith)
-same-equal (x ∷ xs) [] h = let z : _≡_ {A = ℕ} 0 1 = cc in absurd (omega arith)
-same-equal (x ∷ xs) (y ∷ ys) h =
-    let b = both (eqb x y) (sameBytes xs ys) h in
-    let here : x ≡ y = eqb-true x y (b .0) in
-    let rest : xs ≡ ys = same-equal xs ys (b .1) in
-    cc
-
-is-false : (t : Bool) → (t ≡ true → ⊥) → t ≡ false
-is-false true h = absurd (h refl)
-is-false false h = refl
-
-pub same-lengths : (xs ys : List ℕ) → (length xs ≡ length ys → ⊥) → sameBytes xs ys ≡ false
-same-lengths xs ys h = is-false (sameBytes xs ys) (λ e. h (ap length (same-equal xs ys e)))
-
--- what is left from i on, byte by byte
-pub same-from : (xs ys : List ℕ) (i : ℕ) → i < length xs → i < length ys
-    → sameBytes (drop i xs) (drop i ys) ≡ (eqb (getD xs i 0) (getD ys i 0) && sameBytes (drop (i + 1) xs) (drop (i + 1) ys))
-unfolding sameBytes
-same-from xs ys i p q = rw (add-one, drop-cons xs i 0 p, drop-cons ys i 0 q)
+use Rattle.source.specs.Keys.{mostKeyBytes, keyLength, keyOf, keyIs, keyArray}
 
 -- as read from an array that is longer than the key
 pub same-turn : (key bytes : List ℕ) (i : ℕ) → length key ≤ length bytes → i < length key
@@ -54,13 +21,6 @@ same-turn key bytes i l h =
     let inside : i < length (take (length key) bytes) = omega (arith, length-take-le (length key) bytes l) in
     same-from key (take (length key) bytes) i h inside
     ∙ rw (getD-take (length key) bytes i 0 h)
-
-pub same-past : (xs ys : List ℕ) (i : ℕ) → i ≡ length xs → i ≡ length ys → sameBytes (drop i xs) (drop i ys) ≡ true
-unfolding sameBytes
-same-past xs ys i p q =
-    let a : drop i xs ≡ [] = rw p (drop-length xs) in
-    let b : drop i ys ≡ [] = rw q (drop-length ys) in
-    rw (a, b)
 
 -- ---- an entry's key
 

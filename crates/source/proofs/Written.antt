@@ -2,7 +2,7 @@
 use mathlib.Core.Path.{_≡_, refl, sym, ap, _∙_}
 use mathlib.Core.Bool.{Bool, true, false, cond}
 use mathlib.Core.List.{List, [], _∷_, _++_, append-assoc, append-nil}
-use Prim.Native.Nat.{ℕ, suc, _+_, _-_, _/_, _%_, _≤_, _<_}
+use Prim.Native.Nat.{ℕ, zero, suc, _+_, _-_, _/_, _%_, _≤_, _<_}
 use native.Mathlib.Omega.{arith}
 use lib.Dec.{ltb}
 use lib.ListN.{length, set, replicate, length-append}
@@ -15,9 +15,11 @@ use Rattle.state.specs.Registry.{sourceCount}
 use Rattle.state.specs.declared.Source.{Source}
 use Rattle.state.specs.declared.Sources.{Sources}
 use Rattle.source.specs.Keys.{mostKeyBytes, keyArray}
-use Rattle.source.specs.Named.{numberedKey}
-use Rattle.source.specs.Registry.{withEntry}
-use Rattle.source.specs.Standard.{counted}
+use Rattle.source.specs.Named.{seqWord, seqIndexKey}
+use Rattle.format.specs.Numbered.{numberedKey}
+use Rattle.source.specs.declared.SourceInfo.{SourceInfo}
+use Rattle.source.specs.Registry.{newEntry, withEntry}
+use Rattle.source.specs.Standard.{heldInfo, withSource, counted, withNumbered, withSequence}
 
 -- a registry that is full
 pub push-full : (s : Sources) (e : Source) (n : ℕ) → length (s .entry) ≡ mostSources → n ≡ sourceCount s → mostSources ≤ n
@@ -84,3 +86,21 @@ counted-none step s = refl
 pub counted-more : (step : ℕ → Sources → Sources) (n : ℕ) (s : Sources) → counted step (suc n) s ≡ step (suc n) (counted step n s)
 unfolding counted
 counted-more step n s = refl
+
+-- ---- an entry whose key is written so
+
+pub with-written : (s r : Sources) (info : SourceInfo) (word after : List ℕ) (n : ℕ) (t0 t1 t2 t3 : Text) → length word + length after ≤ 29
+    → t0 ≡ blankText → t1 ≡ putAll t0 word → t2 ≡ putAll t1 (decimal n) → t3 ≡ putAll t2 after
+    → r ≡ withEntry s (record { key = t3 .bytes; len = t3 .len; kind = info .kind; scope = info .scope; range = info .range })
+    → r ≡ withSource (numberedKey word after n) info s
+unfolding withSource newEntry
+with-written s r info word after n t0 t1 t2 t3 h q0 q1 q2 q3 q =
+    let whole : t3 ≡ textOf (numberedKey word after n) = q3 ∙ ap (λ (t : Text). putAll t after) (q2 ∙ ap (λ (t : Text). putAll t (decimal n)) (q1 ∙ ap (λ (t : Text). putAll t word) q0)) ∙ written-key word after n h in
+    q ∙ ap (λ (t : Text). withEntry s (record { key = t .bytes; len = t .len; kind = info .kind; scope = info .scope; range = info .range })) whole
+
+-- ---- a sequence with values
+
+pub sequence-some : (n : ℕ) (s : Sources) → (n ≡ 0 → ⊥) → withSequence n s ≡ withSource seqIndexKey heldInfo (withNumbered seqWord [] heldInfo n s)
+unfolding withSequence
+sequence-some zero s h = absurd (h refl)
+sequence-some (suc n) s h = refl

@@ -12,7 +12,8 @@ use Rattle.state.specs.declared.Source.{Source}
 use Rattle.state.specs.declared.Sources.{Sources}
 use Rattle.source.specs.declared.SourceAdded.{SourceAdded}
 use Rattle.source.specs.declared.SourceFound.the-variants as F
-use Rattle.source.specs.Keys.{keyOf, sameBytes, keyIs, keyArray}
+use Rattle.source.specs.Keys.{keyOf, keyIs, keyArray}
+use Rattle.format.specs.Bytes.{sameBytes}
 use Rattle.state.specs.Registry.{noSource as blankEntry, sourceCount}
 use Rattle.source.specs.Registry.{sourcesEmpty, registered, getSource, findKey, findSource, newEntry, withEntry, addSource}
 use Rattle.source.specs.Info.{engineOwned, usualInfo, infoVoice, infoGlobal, infoBipolar}

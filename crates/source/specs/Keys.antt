@@ -1,9 +1,9 @@
 -- A source's key: "0 to 32 bytes" (document 01, Source entry; source.rs 86). Definitions only.
-use mathlib.Core.Bool.{Bool, true, false, _&&_}
-use mathlib.Core.List.{List, [], _∷_, _++_}
+use mathlib.Core.Bool.{Bool}
+use mathlib.Core.List.{List, _++_}
 use Prim.Native.Nat.{ℕ, _-_, min}
-use lib.Dec.{eqb}
 use lib.ListN.{length, take, replicate}
+use Rattle.format.specs.Bytes.{sameBytes}
 use Rattle.state.specs.declared.Source.{Source}
 
 abbrev pub mostKeyBytes : ℕ
@@ -16,13 +16,6 @@ keyLength n = min n mostKeyBytes
 -- an entry's key
 unfoldable pub keyOf : Source → List ℕ
 keyOf e = take (keyLength (e .len)) (e .key)
-
--- the same length and the same bytes
-unfoldable pub sameBytes : List ℕ → List ℕ → Bool
-sameBytes [] [] = true
-sameBytes [] (y ∷ ys) = false
-sameBytes (x ∷ xs) [] = false
-sameBytes (x ∷ xs) (y ∷ ys) = eqb x y && sameBytes xs ys
 
 unfoldable pub keyIs : List ℕ → Source → Bool
 keyIs key e = sameBytes key (keyOf e)

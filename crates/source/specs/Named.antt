@@ -1,11 +1,6 @@
 -- The keys of the standard sources, as bytes (source.rs 231-314). Definitions only.
-use mathlib.Core.List.{List, [], _∷_, _++_}
+use mathlib.Core.List.{List, [], _∷_}
 use Prim.Native.Nat.{ℕ}
-use Rattle.format.specs.Text.{decimal}
-
--- a word, a number below 1000, and what follows it
-abbrev pub numberedKey : List ℕ → List ℕ → ℕ → List ℕ
-numberedKey word after n = word ++ (decimal n ++ after)
 
 -- "env", "lfo", "_y", "macro", "seq_value"
 abbrev pub envWord : List ℕ

@@ -1,7 +1,7 @@
 -- The standard sources: which entries, in which order, and what refuses them (source.rs 146-160, 216-322; docs/CALLS.md). Definitions only.
-use mathlib.Core.Bool.{Bool, true, false, cond, _||_}
+use mathlib.Core.Bool.{Bool, true, false, cond, _&&_, _||_}
 use mathlib.Core.List.{List, [], _∷_}
-use Prim.Native.Nat.{ℕ, zero, suc, _+_, _*_, min}
+use Prim.Native.Nat.{ℕ, zero, suc, _+_, _*_}
 use lib.Dec.{eqb, ltb, leb}
 use lib.ListN.{length, take, drop}
 use Rattle.judge.specs.Judge.{Row, _when_, judged}
@@ -12,15 +12,20 @@ use Rattle.state.specs.declared.Sources.{Sources}
 use Rattle.source.specs.declared.SourceInfo.{SourceInfo}
 use Rattle.source.specs.declared.Counts.{Counts}
 use Rattle.source.specs.declared.StandardMade.{StandardMade}
-use Rattle.source.specs.Keys.{mostKeyBytes, sameBytes}
+use Rattle.source.specs.Keys.{mostKeyBytes}
+use Rattle.format.specs.Bytes.{sameBytes}
 use Rattle.source.specs.Info.{usualInfo, infoVoice, infoBipolar}
 use Rattle.source.specs.Registry.{noSources, registered, findKey, isAt, newEntry, withEntry}
-use Rattle.source.specs.Named.{numberedKey, envWord, lfoWord, afterY, macroWord, seqWord, velocityKey, keyKey, channelPressureKey, polyPressureKey, random1Key, random2Key, alternate1Key, alternate2Key, modWheelKey, pitchBendKey, mpeXKey, mpeYKey, mpeZKey, releaseVelocityKey, constantKey, voiceLoadKey, seqIndexKey, randomRouteKey}
+use Rattle.source.specs.Named.{envWord, lfoWord, afterY, macroWord, seqWord, velocityKey, keyKey, channelPressureKey, polyPressureKey, random1Key, random2Key, alternate1Key, alternate2Key, modWheelKey, pitchBendKey, mpeXKey, mpeYKey, mpeZKey, releaseVelocityKey, constantKey, voiceLoadKey, seqIndexKey, randomRouteKey}
+use Rattle.format.specs.Numbered.{numberedKey, isNumbered}
 
 -- ---- the entries, each after those before it
 
-abbrev pub heldKind : Kind
-heldKind = K.Held
+abbrev pub heldInfo : SourceInfo
+heldInfo = infoVoice (usualInfo K.Held)
+
+abbrev pub audioInfo : SourceInfo
+audioInfo = usualInfo K.Audio
 
 unfoldable pub withSource : List ℕ → SourceInfo → Sources → Sources
 withSource key info s = withEntry s (newEntry key (info .kind) (info .scope) (info .range))
@@ -49,7 +54,7 @@ withNoteSources s =
     (withSource alternate1Key (usualInfo (K.Alternate false))
     (withSource random2Key (usualInfo K.Random)
     (withSource random1Key (usualInfo K.Random)
-    (withSource polyPressureKey (infoVoice (usualInfo K.Held))
+    (withSource polyPressureKey heldInfo
     (withSource channelPressureKey (usualInfo K.Held)
     (withSource keyKey (usualInfo K.Key)
     (withSource velocityKey (usualInfo K.Velocity) s)))))))
@@ -59,22 +64,22 @@ unfoldable pub withControllers : Sources → Sources
 withControllers s =
     withSource constantKey (usualInfo K.Constant)
     (withSource releaseVelocityKey (usualInfo K.ReleaseVelocity)
-    (withSource mpeZKey (infoVoice (usualInfo K.Held))
-    (withSource mpeYKey (infoVoice (usualInfo K.Held))
-    (withSource mpeXKey (infoBipolar (infoVoice (usualInfo K.Held)))
+    (withSource mpeZKey heldInfo
+    (withSource mpeYKey heldInfo
+    (withSource mpeXKey (infoBipolar heldInfo)
     (withSource pitchBendKey (infoBipolar (usualInfo K.Held))
     (withSource modWheelKey (usualInfo K.Held) s))))))
 
 -- source.rs 299-301
 unfoldable pub withAudio : List (List ℕ) → Sources → Sources
 withAudio [] s = s
-withAudio (k ∷ ks) s = withAudio ks (withSource k (usualInfo K.Audio) s)
+withAudio (k ∷ ks) s = withAudio ks (withSource k audioInfo s)
 
 -- the values and, where there are any, the index (source.rs 303-315)
 unfoldable pub withSequence : ℕ → Sources → Sources
 withSequence zero s = s
 withSequence (suc n) s =
-    withSource seqIndexKey (infoVoice (usualInfo K.Held)) (withNumbered seqWord [] (infoVoice (usualInfo K.Held)) (suc n) s)
+    withSource seqIndexKey heldInfo (withNumbered seqWord [] heldInfo (suc n) s)
 
 -- source.rs 231-320
 unfoldable pub allSources : Counts → List (List ℕ) → Sources
@@ -110,10 +115,6 @@ anySame key (k ∷ ks) = sameBytes key k || anySame key ks
 
 -- ---- rows
 
--- a registry has at most 128: a count is held to that where keys are compared
-abbrev pub heldCount : ℕ → ℕ
-heldCount n = min n mostSources
-
 unfoldable pub has : List ℕ → Sources → Bool
 has key s = isAt (findKey 0 key (registered s))
 
@@ -122,14 +123,17 @@ unfoldable pub fixedSources : Sources
 fixedSources =
     withSource randomRouteKey (usualInfo K.RandomPerRoute) (withSource voiceLoadKey (usualInfo K.VoiceLoad) (withControllers (withNoteSources noSources)))
 
--- whether it is a standard key for these counts
+-- whether it is a sequence value's key or, where there are any, the index's
+unfoldable pub sequenceKey : ℕ → List ℕ → Bool
+sequenceKey n key = isNumbered seqWord [] n key || (ltb 0 n && sameBytes key seqIndexKey)
+
+-- whether it is a standard key for these counts, however large they are
 unfoldable pub standardKey : Counts → List ℕ → Bool
 standardKey n key =
-    has key (withNumbered envWord [] (usualInfo K.Signal) (heldCount (n .envelopes)) noSources)
-    || (has key (withNumbered lfoWord [] (usualInfo K.Signal) (heldCount (n .lfos)) noSources)
-    || (has key (withNumbered lfoWord afterY (usualInfo K.Signal) (heldCount (n .lfos)) noSources)
-    || (has key (withNumbered macroWord [] (usualInfo K.Held) (heldCount (n .macros)) noSources)
-    || (has key (withSequence (heldCount (n .«sequence_values»)) noSources) || has key fixedSources))))
+    isNumbered envWord [] (n .envelopes) key
+    || (isNumbered lfoWord [] (n .lfos) key
+    || (isNumbered lfoWord afterY (n .lfos) key
+    || (isNumbered macroWord [] (n .macros) key || (sequenceKey (n .«sequence_values») key || has key fixedSources))))
 
 -- an audio key equals another one, or a standard key
 unfoldable pub clashes : Counts → List (List ℕ) → Bool

@@ -1,4 +1,6 @@
 pub mod Lanes
+pub mod Spans
+pub mod Places
 pub mod Found
 pub mod Steps
 pub mod Jobs

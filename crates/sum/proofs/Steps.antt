@@ -1,6 +1,7 @@
 -- The sums route by route, by what the code finds. Assumes nothing.
 use mathlib.Core.Path.{_≡_, refl, sym, ap, _∙_}
 use mathlib.Core.Bool.{Bool, true, false, not, cond, _&&_, _||_}
+use mathlib.Core.Logic.{⊎-elim}
 use Prim.Native.Nat.{ℕ, zero, suc, _+_, _<_}
 use native.Mathlib.Numerals.{add-one}
 use native.Mathlib.Decide.{ℕ-discrete}
@@ -11,29 +12,33 @@ use Rattle.number.specs.Number.{zero32, plus, times}
 use Rattle.state.specs.declared.Gains.{Gains}
 use Rattle.state.specs.declared.Route.{Route}
 use Rattle.model.specs.Env.{Env, Rows, Own}
-use Rattle.model.specs.Lanes.{Lane, lane, nowhere, addend, inSpan}
+use Rattle.model.specs.Lanes.{Lane, lane, nowhere, inGroup, laneIf, addend, inSpan}
 use Rattle.model.specs.Mix.{Mix}
 use Rattle.model.specs.RouteValue.{rawIn, routeValue, isZero, idle, plain}
 use Rattle.model.specs.Sums.{baseIn, offsetStep, offsets, somePlain, allPlain, hasPlain, scaledGain, plainStep, plains, addLane, otherStep, others, begun, tickSum, audioBegun, audioSum}
+use Rattle.number.proofs.Laws.{no as never}
+use Rattle.input.proofs.Numbers.{which}
 use Rattle.input.proofs.Tests.{was-true, was-false}
-use Rattle.sum.specs.Job.{slotGain}
+use Rattle.sum.specs.declared.Job.{Job}
+use Rattle.sum.specs.declared.Totals.{Totals}
+use Rattle.sum.specs.Job.{laneCount, slotGain, IsJob}
+use Rattle.sum.specs.Ground.{Totalled}
 
 -- ---- offsets
 
-pub offsets-none : (t : Env) (x : Mix) → zero32 ≡ offsets t x 0
+offsets-none : (t : Env) (x : Mix) → zero32 ≡ offsets t x 0
 unfolding offsets
 offsets-none t x = refl
 
-pub offsets-next : (t : Env) (x : Mix) (j : ℕ) {a b : Float} → a ≡ offsets t x j → b ≡ offsetStep t x (x .route j) a → b ≡ offsets t x (j + 1)
+offsets-next : (t : Env) (x : Mix) (j : ℕ) {a b : Float} → a ≡ offsets t x j → b ≡ offsetStep t x (x .route j) a → b ≡ offsets t x (j + 1)
 unfolding offsets
 offsets-next t x j e k = rw add-one (k ∙ ap (offsetStep t x (x .route j)) e)
 
-pub offset-none : (t : Env) (x : Mix) (r : Route) (a : Float) {b : Bool} → b ≡ plain t (x .voice) r → not b ≡ true → a ≡ offsetStep t x r a
-offset-none t x r a e h = rw (was-false e h)
+offset-none : (t : Env) (x : Mix) (r : Route) (a : Float) → plain t (x .voice) r ≡ false → a ≡ offsetStep t x r a
+offset-none t x r a e = rw e
 
-pub offset-some : (t : Env) (x : Mix) (r : Route) (a : Float) {b : Bool} {s : Gains} {g : Float} → b ≡ plain t (x .voice) r → not b ≡ false → t .gains ≡ s → g ≡ slotGain s (r .slot)
-    → plus a (times (r .offset) g) ≡ offsetStep t x r a
-offset-some t x r a e h q k = rw (was-true e h, q) (ap (λ (z : Float). plus a (times (r .offset) z)) k)
+offset-some : (t : Env) (x : Mix) (r : Route) (a : Float) {s : Gains} → plain t (x .voice) r ≡ true → t .gains ≡ s → plus a (times (r .offset) (slotGain s (r .slot))) ≡ offsetStep t x r a
+offset-some t x r a e q = rw (e, q)
 
 -- ---- whether there is a plain route, and whether all are
 
@@ -45,11 +50,11 @@ and-false : (a : Bool) → a && false ≡ false
 and-false true = refl
 and-false false = refl
 
-pub some-none : (t : Env) (x : Mix) → somePlain t x 0 ≡ false
+some-none : (t : Env) (x : Mix) → somePlain t x 0 ≡ false
 unfolding somePlain
 some-none t x = refl
 
-pub some-found : (t : Env) (x : Mix) (j k : ℕ) → j < k → plain t (x .voice) (x .route j) ≡ true → somePlain t x k ≡ true
+some-found : (t : Env) (x : Mix) (j k : ℕ) → j < k → plain t (x .voice) (x .route j) ≡ true → somePlain t x k ≡ true
 unfolding somePlain
 some-found t x j zero h e = absurd (not-suc-le-zero h)
 some-found t x j (suc k) h e = elim (ℕ-discrete j k) [
@@ -59,15 +64,19 @@ some-found t x j (suc k) h e = elim (ℕ-discrete j k) [
   | no q ↦ rw (some-found t x j k (omega arith) e)
 ]
 
-pub some-next : (t : Env) (x : Mix) (j : ℕ) → somePlain t x j ≡ false → plain t (x .voice) (x .route j) ≡ false → somePlain t x (j + 1) ≡ false
-unfolding somePlain
-some-next t x j h e = rw add-one (rw (h, e))
+or-false : (a : Bool) → a ≡ a || false
+or-false true = refl
+or-false false = refl
 
-pub all-none : (t : Env) (x : Mix) → allPlain t x 0 ≡ true
+some-kept : (t : Env) (x : Mix) (j : ℕ) → plain t (x .voice) (x .route j) ≡ false → somePlain t x j ≡ somePlain t x (j + 1)
+unfolding somePlain
+some-kept t x j e = rw add-one (rw e (or-false (somePlain t x j)))
+
+all-none : (t : Env) (x : Mix) → allPlain t x 0 ≡ true
 unfolding allPlain
 all-none t x = refl
 
-pub all-lost : (t : Env) (x : Mix) (j k : ℕ) → j < k → plain t (x .voice) (x .route j) ≡ false → allPlain t x k ≡ false
+all-lost : (t : Env) (x : Mix) (j k : ℕ) → j < k → plain t (x .voice) (x .route j) ≡ false → allPlain t x k ≡ false
 unfolding allPlain
 all-lost t x j zero h e = absurd (not-suc-le-zero h)
 all-lost t x j (suc k) h e = elim (ℕ-discrete j k) [
@@ -77,9 +86,38 @@ all-lost t x j (suc k) h e = elim (ℕ-discrete j k) [
   | no q ↦ rw (all-lost t x j k (omega arith) e)
 ]
 
-pub all-next : (t : Env) (x : Mix) (j : ℕ) → allPlain t x j ≡ true → plain t (x .voice) (x .route j) ≡ true → allPlain t x (j + 1) ≡ true
+and-true : (a : Bool) → a ≡ a && true
+and-true true = refl
+and-true false = refl
+
+all-kept : (t : Env) (x : Mix) (j : ℕ) → plain t (x .voice) (x .route j) ≡ true → allPlain t x j ≡ allPlain t x (j + 1)
 unfolding allPlain
-all-next t x j h e = rw add-one (rw (h, e))
+all-kept t x j e = rw add-one (rw e (and-true (allPlain t x j)))
+
+-- ---- what the plain routes come to
+
+pub totalled-none : (t : Env) (x : Mix) {z : Totals} → z .some ≡ false → z .all ≡ true → z .offset ≡ zero32 → Totalled t x 0 z
+totalled-none t x e d o = record { some = e ∙ sym (some-none t x); all = d ∙ sym (all-none t x); offset = o ∙ offsets-none t x }
+
+pub totalled-plain : (t : Env) (x : Mix) (j : ℕ) {r : Route} {z y : Totals} {s : Gains} → x .route j ≡ r → plain t (x .voice) r ≡ true → t .gains ≡ s → Totalled t x j z
+    → y .some ≡ true → y .all ≡ z .all → y .offset ≡ plus (z .offset) (times (r .offset) (slotGain s (r .slot))) → Totalled t x (j + 1) y
+totalled-plain t x j {r} {z} q p g k e d o =
+    let here : plain t (x .voice) (x .route j) ≡ true = rw q p in
+    record {
+      some = e ∙ sym (some-found t x j (j + 1) (omega arith) here);
+      all = d ∙ k .all ∙ all-kept t x j here;
+      offset = offsets-next t x j (k .offset) (rw q (o ∙ offset-some t x r (z .offset) p g));
+    }
+
+pub totalled-other : (t : Env) (x : Mix) (j : ℕ) {r : Route} {z y : Totals} → x .route j ≡ r → plain t (x .voice) r ≡ false → Totalled t x j z
+    → y .some ≡ z .some → y .all ≡ false → y .offset ≡ z .offset → Totalled t x (j + 1) y
+totalled-other t x j {r} {z} q p k e d o =
+    let here : plain t (x .voice) (x .route j) ≡ false = rw q p in
+    record {
+      some = e ∙ k .some ∙ some-kept t x j here;
+      all = d ∙ sym (all-lost t x j (j + 1) (omega arith) here);
+      offset = offsets-next t x j (k .offset) (rw q (o ∙ offset-none t x r (z .offset) p));
+    }
 
 -- ---- plain routes
 
@@ -137,8 +175,30 @@ pub plains-next : (t : Env) (f : Rows) (s : Own) (x : Mix) (l j : ℕ) (span : B
 plains-next t f s x l j true a v u e k = k ∙ ap (plainStep t f s x j l (x .route j)) e ∙ plains-more t f s x l j
 plains-next t f s x l j false a v u e k = k ∙ e
 
-pub span-start : (span : Bool) (a base o : Float) {p q v : Float} → v ≡ cond span (plus base o) a → base ≡ p → o ≡ q → v ≡ cond span (plus p q) a
-span-start span a base o {p = p} k e d = k ∙ ap (λ (z : Float). cond span (plus z o) a) e ∙ ap (λ (z : Float). cond span (plus p z) a) d
+pub span-start : (span b : Bool) (a start : Float) {p v : Float} → v ≡ cond b start a → span ≡ b → start ≡ p → v ≡ cond span p a
+span-start span b a start k d e = k ∙ ap (λ (z : Bool). cond z start a) (sym d) ∙ ap (λ (z : Float). cond span z a) e
+
+-- in the span, by its lanes
+pub in-span : (span b : Bool) (new a : Float) {v : Float} → span ≡ b → v ≡ cond b new a → v ≡ cond span new a
+in-span span b new a e k = rw e k
+
+-- what stands at the place is what is read
+pub told : (b : Bool) (a raw z gain : Float) {v : Float} → raw ≡ z → v ≡ cond b (plus a (times z gain)) a → v ≡ cond b (plus a (times raw gain)) a
+told b a raw z gain e k = rw e k
+
+-- a destination that is not per voice has no plain route
+none-plain : (t : Env) (x : Mix) (k : ℕ) → x .voice ≡ false → somePlain t x k ≡ false
+unfolding somePlain plain
+none-plain t x zero e = refl
+none-plain t x (suc k) e = rw (none-plain t x k e, e)
+
+-- so that where there is one, the row has a lane for each voice
+pub plain-wide : {t : Env} {x : Mix} {w : Job} (l : ℕ) → IsJob t x w → hasPlain t x ≡ true → l < laneCount w → l < w .scene .stride
+plain-wide {t} {x} {w} l k e h =
+    ⊎-elim
+    (λ (p : w .plan .voice ≡ true). rw p at h)
+    (λ (p : w .plan .voice ≡ false). absurd (never (sym (none-plain t x (x .count) (k .mix .voice ∙ p)) ∙ e)))
+    (which (w .plan .voice))
 
 -- ---- the others
 
@@ -166,6 +226,28 @@ other-added t f s s′ x j l a {voice} {r} w q e h i k same out =
     ∙ same-lane t f s s′ j r a (addend t voice (r .voice) l) same
     ∙ ap (λ (z : Bool). addLane t f s j r a (addend t z (r .voice) l)) (sym w)
     ∙ left (plain t (x .voice) r) (idle t r) a _ (sym e ∙ h) (sym i ∙ k))
+
+lane-if : (t : Env) (f : Rows) (s : Own) (j : ℕ) (r : Route) (a : Float) (l : ℕ) (b : Bool) → cond b (plus a (routeValue t f s j l r)) a ≡ addLane t f s j r a (laneIf b l)
+lane-if t f s j r a l true = refl
+lane-if t f s j r a l false = refl
+
+-- into a destination per voice: a route's own lane, or the only one
+pub voice-own : (t : Env) (f : Rows) (s : Own) (j : ℕ) (r : Route) (l : ℕ) (a : Float) {g : Bool} {u : Float} → r .voice ≡ true → g ≡ inGroup t l
+    → u ≡ cond g (plus a (routeValue t f s j l r)) a → u ≡ addLane t f s j r a (addend t true (r .voice) l)
+voice-own t f s j r l a e d k =
+    k
+    ∙ ap (λ (z : Bool). cond z (plus a (routeValue t f s j l r)) a) d
+    ∙ lane-if t f s j r a l (inGroup t l)
+    ∙ ap (λ (z : Bool). addLane t f s j r a (addend t true z l)) (sym e)
+
+pub voice-same : (t : Env) (f : Rows) (s : Own) (j : ℕ) (r : Route) (l : ℕ) (a : Float) {g : Bool} {u v : Float} → r .voice ≡ false → g ≡ inGroup t l → v ≡ routeValue t f s j 0 r
+    → u ≡ cond g (plus a v) a → u ≡ addLane t f s j r a (addend t true (r .voice) l)
+voice-same t f s j r l a {g} e d x k =
+    k
+    ∙ ap (λ (z : Float). cond g (plus a z) a) x
+    ∙ ap (λ (z : Bool). cond z (plus a (routeValue t f s j 0 r)) a) d
+    ∙ lane-if t f s j r a 0 (inGroup t l)
+    ∙ ap (λ (z : Bool). addLane t f s j r a (addend t true z l)) (sym e)
 
 pub others-none : (t : Env) (f : Rows) (s : Own) (x : Mix) (l : ℕ) (a : Float) → a ≡ others t f s x l a 0
 unfolding others

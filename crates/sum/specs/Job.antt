@@ -1,9 +1,7 @@
 -- What the sum of a destination is worked out from, and that it is the environment's and the mix's. Definitions only.
 use mathlib.Core.Path.{_≡_}
-use mathlib.Core.Bool.{cond}
 use mathlib.Core.List.{List}
 use Prim.Native.Nat.{ℕ, _+_, _≤_, _<_}
-use lib.Dec.{ltb}
 use lib.ListN.{getD}
 use lib.Ieee.{Float}
 use Rattle.config.specs.Sizes.{slots}
@@ -22,7 +20,7 @@ use Rattle.model.specs.Mix.{Mix}
 use Rattle.input.specs.declared.Scene.{Scene}
 use Rattle.input.specs.Reads.{Reads, Works, partFor, pointOf}
 use Rattle.route.specs.declared.View.{View}
-use Rattle.route.specs.View.{viewOf, IsOwn}
+use Rattle.route.specs.View.{IsOwn}
 use Rattle.sum.specs.declared.Job.{Job}
 
 -- sizes below their limits
@@ -38,13 +36,6 @@ laneCount w = planWidth (w .scene .stride) (w .plan .voice)
 -- route j of the plan
 abbrev pub routeOf : Job → ℕ → Route
 routeOf w j = getD (w .routes) (w .plan .first + j) noRoute
-
--- where its own rows start, where there is such a route
-abbrev pub ownFor : Job → ℕ → ℕ
-ownFor w j = cond (ltb (w .plan .first + j) slots) (routeSlew (w .scene .stride) (w .chunks) (w .plans) (w .plan .first + j) 0) 0
-
-abbrev pub viewFor : Job → ℕ → Route → View
-viewFor w j r = viewOf (w .scene) (w .signals) (w .chunks) (ownFor w j) r
 
 -- a slot's amount times its output
 abbrev pub slotGain : Gains → ℕ → Float

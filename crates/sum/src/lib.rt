@@ -1,26 +1,32 @@
 // The sum of a destination, a row of lanes at a time: the base, the plain routes, then the others (engine.rs 850-905, 1060-1112, 1313-1343; document 01, Chunk and
 // value). The definitions are in model's specs/Sums. A contract holds of every environment and mix that have what the function is handed: specs/Job says what that is.
 ghost use mathlib.Core.Path.{_≡_};
-ghost use mathlib.Core.Bool.{cond};
-ghost use Prim.Native.Nat.{ℕ, _+_, _≤_, _<_};
-ghost use lib.ListN.{getD};
+ghost use mathlib.Core.Bool.{true, false, cond, _&&_};
+ghost use mathlib.Core.List.{List};
+ghost use Prim.Native.Nat.{ℕ, _+_, _-_, _*_, _/_, _≤_, _<_};
+ghost use lib.Dec.{ltb, leb};
+ghost use lib.ListN.{length, getD};
 ghost use lib.Ieee.{Float};
-ghost use Rattle.config.specs.Sizes.{slots, mostVoices};
+ghost use Rattle.config.specs.Sizes.{slots, mostSources, lanes};
 ghost use Rattle.number.specs.Number.{plus, times};
 ghost use Rattle.filled.specs.Filled.{noRoute};
 ghost use Rattle.model.specs.Counts.{at};
-ghost use Rattle.model.specs.Env.{Env, Rows, Own};
-ghost use Rattle.model.specs.Lanes.{addend, inSpan};
+ghost use Rattle.model.specs.Env.{Env, Rows, Own, noPart, sampleIn};
+ghost use Rattle.model.specs.Lanes.{anyFrom, groupOf, inGroup, addend, inSpan};
 ghost use Rattle.model.specs.Mix.{Mix};
 ghost use Rattle.model.specs.RouteValue.{rawIn, routeValue, plain};
-ghost use Rattle.model.specs.Sums.{baseIn, offsetStep, offsets, allPlain, hasPlain, plainStep, plains, addLane, otherStep, others, begun, tickSum, audioBegun, audioSum};
+ghost use Rattle.model.specs.Sums.{baseIn, offsets, allPlain, hasPlain, plainStep, plains, addLane, otherStep, others, begun, tickSum, audioBegun, audioSum};
 ghost use Rattle.input.specs.Lane.{laneOf};
-ghost use Rattle.input.specs.Reads.{Works, pointOf};
-ghost use Rattle.route.specs.View.{mostValues, Placed, Viewed};
-ghost use Rattle.sum.specs.Job.{Bounded, laneCount, routeOf, ownFor, viewFor, slotGain, baseBy, IsScene, IsJob, Mixes, Sums, Shown};
+ghost use Rattle.input.specs.Reads.{Works, partFor, pointOf};
+ghost use Rattle.route.specs.View.{mostValues, Placed, auxPart, Viewed};
+ghost use Rattle.sum.specs.Job.{Bounded, laneCount, slotGain, baseBy, IsScene, IsJob, Mixes, Sums, Shown};
+ghost use Rattle.sum.specs.Ground.{Based, groundOf, Chosen, partKey, auxKey, ownBy, viewBy, Inside, Tells, Spanned, Reached, Totalled};
+use config::LANES;
 use config::SLOTS;
+use config::SOURCES;
 use config::VOICES;
 use input::Lane;
+use input::Point;
 use input::Scene;
 use route::View;
 use state::Aux;
@@ -31,8 +37,10 @@ use state::Input;
 use state::Plan;
 use state::Read;
 use state::Route;
+use state::SignalPart;
 use state::Signals;
 use state::Slew;
+use voice::Voices;
 
 // What the sum of a destination is worked out from at one frame, besides the lent numbers: its plan, the routes, scene and signals, and how many chunks a plan has
 // room for and how many plans there are.
@@ -43,6 +51,50 @@ pub struct Job {
     pub signals: Signals,
     pub chunks: usize,
     pub plans: usize,
+}
+
+// What every route of a job's plan is worked out from: whether the plan is per voice, whether a voice is active, the first route, the sizes and the gains.
+pub struct Ground {
+    pub voice: bool,
+    pub sounds: bool,
+    pub first: usize,
+    pub plans: usize,
+    pub up_to: usize,
+    pub point: Point,
+    pub gains: Gains,
+}
+
+// The active span: its first lane, and where it ends.
+pub struct Span {
+    pub first: usize,
+    pub end: usize,
+}
+
+// What the plain routes come to: whether there is one, whether all are plain, and the sum of their offsets.
+pub struct Totals {
+    pub some: bool,
+    pub all: bool,
+    pub offset: f32,
+}
+
+// Where the numbers that a route reads stand, one a lane: from there on in the held numbers, the values or the samples.
+pub enum Place {
+    Held(usize),
+    Values(usize),
+    Samples(usize),
+    Nowhere,
+}
+
+// The groups of lanes.
+pub const GROUPS: usize = 4;
+
+// The lanes that the other routes are added in: how many, and which groups of them have an active voice; the voices; and the fresh lanes.
+pub struct Reach {
+    pub lanes: usize,
+    pub groups: [bool; GROUPS],
+    pub voices: Voices,
+    pub fresh: [bool; VOICES],
+    pub snap: bool,
 }
 
 // The lanes of the plan's row.
@@ -85,17 +137,45 @@ fn no_route() -> Route
     }
 }
 
-// How many routes the plan has.
-pub fn route_count(job: Job) -> usize
-    ensures { λ r. ⌜ r ≡ job .plan .count ⌝ }
+// a count, which is a usize
+fn counted(n: usize) -> usize
+    ensures { λ r. ⌜ (r ≡ n) × (r ≤ 18446744073709551615) ⌝ }
 {
-    let plan = job.plan;
-    plan.count
+    n
 }
 
-// The route that stands j after the first.
-pub fn route_at(routes: [Route; SLOTS], first: usize, j: usize) -> Route
-    ensures { λ r. ⌜ (r ≡ getD routes (first + j) noRoute) × (slots ≤ first + j → r ≡ noRoute) ⌝ }
+// the routes of a job's program, and how many there is room for
+fn routes_of(job: Job) -> [Route; SLOTS]
+    ensures { λ r. ⌜ (r ≡ job .routes) × (length r ≡ slots) ⌝ }
+{
+    let routes = job.routes;
+    routes
+}
+
+// the parts of the signals, and how many there are
+fn parts_of(signals: Signals) -> [SignalPart; SOURCES]
+    ensures { λ r. ⌜ (r ≡ signals .part) × (length r ≡ mostSources) ⌝ }
+{
+    let parts = signals.part;
+    parts
+}
+
+// where route j after the first stands; 0 where there is none
+fn route_index(first: usize, j: usize) -> usize
+    ensures { λ r. ⌜ (r < slots) × (first + j < slots → r ≡ first + j) ⌝ }
+{
+    if SLOTS <= first {
+        return 0;
+    }
+    if SLOTS - first <= j {
+        return 0;
+    }
+    first + j
+}
+
+// what was read there, where there is such a route
+fn route_or(first: usize, j: usize, stored: Route) -> Route
+    ensures { λ r. ⌜ r ≡ cond (ltb (first + j) slots) stored noRoute ⌝ }
 {
     if SLOTS <= first {
         return no_route();
@@ -103,67 +183,143 @@ pub fn route_at(routes: [Route; SLOTS], first: usize, j: usize) -> Route
     if SLOTS - first <= j {
         return no_route();
     }
-    routes[first + j]
+    stored
 }
 
-// Route j of the plan.
-pub fn route_of(job: Job, j: usize) -> Route
-    ensures { λ r. ⌜ (r ≡ routeOf job j) × (slots ≤ job .plan .first + j → r ≡ noRoute) ⌝ }
+// the source whose signal is read; where none is, the number after the last
+fn part_key(read: Read) -> usize
+    ensures { λ r. ⌜ r ≡ partKey read ⌝ }
+{
+    match read {
+        Read::Signal { source, voice: _ } => source as usize,
+        Read::Held {
+            source: _,
+            voice: _,
+        } => SOURCES,
+        Read::Fed { plan: _, voice: _ } => SOURCES,
+        Read::Constant => SOURCES,
+        Read::RouteRandom => SOURCES,
+    }
+}
+
+fn input_key(input: Input) -> usize
+    ensures { λ r. ⌜ r ≡ partKey (input .read) ⌝ }
+{
+    let read = input.read;
+    part_key(read)
+}
+
+fn source_key(route: Route) -> usize
+    ensures { λ r. ⌜ r ≡ partKey (route .source .read) ⌝ }
+{
+    let source = route.source;
+    input_key(source)
+}
+
+fn aux_key(aux: Aux) -> usize
+    ensures { λ r. ⌜ r ≡ auxKey aux ⌝ }
+{
+    match aux {
+        Aux::Missing => SOURCES,
+        Aux::With(i) => input_key(i),
+    }
+}
+
+fn route_aux_key(route: Route) -> usize
+    ensures { λ r. ⌜ r ≡ auxKey (route .aux) ⌝ }
+{
+    let aux = route.aux;
+    aux_key(aux)
+}
+
+// where its part stands; 0 where there is none
+fn part_index(key: usize) -> usize
+    ensures { λ r. ⌜ (r < mostSources) × (key < mostSources → r ≡ key) ⌝ }
+{
+    if key < SOURCES {
+        return key;
+    }
+    0
+}
+
+// what was read there, where there is such a part
+fn part_or(key: usize, stored: SignalPart) -> SignalPart
+    ensures { λ r. ⌜ r ≡ cond (ltb key mostSources) stored noPart ⌝ }
+{
+    if key < SOURCES {
+        return stored;
+    }
+    input::no_part()
+}
+
+// What every route of a job is worked out from.
+pub fn ground_of(job: Job) -> Ground
+    ensures { λ r. ⌜ r ≡ groundOf job ⌝ }
 {
     let plan = job.plan;
-    let routes = job.routes;
-    route_at(routes, plan.first, j)
+    let scene = job.scene;
+    let voices = scene.voices;
+    let active = voices.active;
+    let gains = scene.gains;
+    Ground {
+        voice: plan.voice,
+        sounds: input::any_from(active, 0, scene.stride),
+        first: plan.first,
+        plans: job.plans,
+        up_to: scene.up_to,
+        point: input::point_of(scene, job.chunks),
+        gains,
+    }
 }
 
 // where the own rows of route j start; 0 where there is no such route
-fn own_for(job: Job, j: usize) -> usize
-    requires { ⌜ Bounded job ⌝ }
-    ensures { λ r. ⌜ (r ≡ ownFor job j) × (r ≤ mostValues) ⌝ }
+fn own_for(ground: Ground, j: usize) -> usize
+    requires { ⌜ Based ground ⌝ }
+    ensures { λ r. ⌜ (r ≡ ownBy ground j) × (r ≤ mostValues) ⌝ }
 {
-    let plan = job.plan;
-    let scene = job.scene;
-    let first = plan.first;
+    let point = ground.point;
+    let first = ground.first;
     if SLOTS <= first {
         return 0;
     }
     if SLOTS - first <= j {
         return 0;
     }
-    route::own_start(scene.stride, job.chunks, job.plans, first + j)
+    route::own_start(point.stride, point.chunks, ground.plans, first + j)
 }
 
-// The view of route j.
-pub fn view_for(job: Job, j: usize, route: Route) -> View
-    requires { ⌜ Bounded job ⌝ }
-    ensures { λ r. ⌜ (r ≡ viewFor job j route) × Placed r ⌝ }
+// The view of route j, whose inputs read these parts.
+pub fn view_for(ground: Ground, j: usize, route: Route, source: SignalPart, aux: SignalPart) -> View
+    requires { ⌜ Based ground ⌝ }
+    ensures { λ r. ⌜ (r ≡ viewBy ground j route source aux) × Placed r ⌝ }
 {
-    let scene = job.scene;
-    let signals = job.signals;
-    let own = own_for(job, j);
-    route::view_of(scene, signals, job.chunks, own, route)
+    let gains = ground.gains;
+    let amount = gains.amount;
+    let output = gains.output;
+    let point = ground.point;
+    View {
+        point,
+        own: own_for(ground, j),
+        source,
+        aux,
+        amount: gain_at(amount, route.slot),
+        output: gain_at(output, route.slot),
+    }
 }
 
-// whether a route is plain
-fn is_plain(job: Job, route: Route) -> bool
-    ensures { λ r. ⌜ ((t : Env) → IsScene t (job .scene) (job .signals) → r ≡ plain t (job .plan .voice) route) ⌝ }
+// whether a route whose source reads that part is plain
+fn is_plain(ground: Ground, route: Route, part: SignalPart) -> bool
+    ensures { λ r. ⌜ ((t : Env) (w : Job) → ground ≡ groundOf w → IsScene t (w .scene) (w .signals) → part ≡ partFor (w .signals) (route .source .read) → r ≡ plain t (w .plan .voice) route) ⌝ }
 {
-    let plan = job.plan;
-    let scene = job.scene;
-    let signals = job.signals;
-    let voices = scene.voices;
-    let active = voices.active;
-    let source = route.source;
-    let read = source.read;
-    let part = input::part_for(signals, read);
-    let sounds = input::sounding(active, scene.stride);
-    route::plain(plan.voice, sounds, route, part, scene.stride, scene.up_to)
-}
-
-// Whether route j of the plan is plain.
-pub fn plain_at(job: Job, j: usize) -> bool
-    ensures { λ r. ⌜ ((t : Env) (x : Mix) → IsJob t x job → j < x .count → r ≡ plain t (x .voice) (x .route j)) ⌝ }
-{
-    is_plain(job, route_of(job, j))
+    let point = ground.point;
+    route::plain(
+        ground.voice,
+        ground.sounds,
+        route,
+        part,
+        point.stride,
+        ground.up_to,
+    )
 }
 
 // ---- base and offsets
@@ -213,201 +369,470 @@ pub fn base_in(job: Job, globals: &[f32], bases: &[f32]) -> f32
     base_by(base, plan.dest, gains, globals, bases)
 }
 
-// a with the offset of route j, where that is plain
-fn add_offset(job: Job, j: usize, a: f32) -> f32
-    ensures { λ r. ⌜ ((t : Env) (x : Mix) → IsJob t x job → j < x .count → r ≡ offsetStep t x (x .route j) a) ⌝ }
+// with a route, which is plain
+fn with_plain(ground: Ground, route: Route, totals: Totals) -> Totals
+    ensures { λ r. ⌜ (r .some ≡ true) × (r .all ≡ totals .all) × (r .offset ≡ plus (totals .offset) (times (route .offset) (slotGain (ground .gains) (route .slot)))) ⌝ }
 {
-    let route = route_of(job, j);
-    if !is_plain(job, route) {
-        return a;
+    let gains = ground.gains;
+    Totals {
+        some: true,
+        all: totals.all,
+        offset: totals.offset + route.offset * slot_gain(gains, route.slot),
     }
-    let scene = job.scene;
-    let gains = scene.gains;
-    a + route.offset * slot_gain(gains, route.slot)
 }
 
-// The sum of the offsets of the plain routes.
-pub fn offsets(job: Job) -> f32
-    ensures { λ r. ⌜ ((t : Env) (x : Mix) → IsJob t x job → r ≡ offsets t x (x .count)) ⌝ }
+// with a route whose source reads that part
+fn with_route(ground: Ground, route: Route, part: SignalPart, totals: Totals) -> Totals
+    ensures { λ r. ⌜ ((t : Env) (x : Mix) (w : Job) (j : ℕ) → IsJob t x w → Chosen w ground j route → j < x .count → part ≡ partFor (w .signals) (route .source .read) → Totalled t x j totals → Totalled t x (j + 1) r) ⌝ }
 {
-    let count = route_count(job);
-    let mut a = 0.0f32;
+    if is_plain(ground, route, part) {
+        return with_plain(ground, route, totals);
+    }
+    Totals {
+        some: totals.some,
+        all: false,
+        offset: totals.offset,
+    }
+}
+
+// What the plain routes come to.
+pub fn totals_of(job: Job) -> Totals
+    ensures { λ r. ⌜ ((t : Env) (x : Mix) → IsJob t x job → Totalled t x (x .count) r) ⌝ }
+{
+    let ground = ground_of(job);
+    let plan = job.plan;
+    let count = counted(plan.count);
+    let routes = routes_of(job);
+    let signals = job.signals;
+    let parts = parts_of(signals);
+    let first = plan.first;
+    let mut out = Totals {
+        some: false,
+        all: true,
+        offset: 0.0,
+    };
     let mut j = 0usize;
     while j < count {
-        let next = add_offset(job, j, a);
-        a = next;
-        j += 1;
-    }
-    a
-}
-
-// Whether there is a plain route.
-pub fn some_plain(job: Job) -> bool
-    ensures { λ r. ⌜ ((t : Env) (x : Mix) → IsJob t x job → r ≡ hasPlain t x) ⌝ }
-{
-    let count = route_count(job);
-    let mut j = 0usize;
-    while j < count {
-        if plain_at(job, j) {
-            return true;
-        }
-        j += 1;
-    }
-    false
-}
-
-// Whether every route is plain.
-pub fn all_plain(job: Job) -> bool
-    ensures { λ r. ⌜ ((t : Env) (x : Mix) → IsJob t x job → r ≡ allPlain t x (x .count)) ⌝ }
-{
-    let count = route_count(job);
-    let mut j = 0usize;
-    while j < count {
-        if !plain_at(job, j) {
-            return false;
-        }
-        j += 1;
-    }
-    true
-}
-
-// ---- plain routes
-
-// x in a lane of the active span, else a
-fn span_lane(job: Job, x: f32, lane: usize, a: f32) -> f32
-    requires { ⌜ lane < mostVoices ⌝ }
-    ensures { λ r. ⌜ ((t : Env) → IsScene t (job .scene) (job .signals) → r ≡ cond (inSpan t lane) x a) ⌝ }
-{
-    let scene = job.scene;
-    let voices = scene.voices;
-    let active = voices.active;
-    if input::in_span(active, scene.stride, lane) {
-        return x;
-    }
-    a
-}
-
-// x in the lanes of the active span; the others as they are
-fn span_row(job: Job, x: f32, row: [f32; VOICES]) -> [f32; VOICES]
-    requires { ⌜ Bounded job ⌝ }
-    ensures { λ r. ⌜ ((t : Env) → IsScene t (job .scene) (job .signals) → (l : ℕ) → l < laneCount job → at r l ≡ cond (inSpan t l) x (at row l)) ⌝ }
-{
-    let n = lane_count(job);
-    let mut out = row;
-    let mut l = 0usize;
-    while l < n {
-        let a = out[l];
-        out[l] = span_lane(job, x, l, a);
-        l += 1;
-    }
-    out
-}
-
-// a with a route's product, where the lane is in the active span
-fn plain_lane(
-    job: Job,
-    route: Route,
-    view: View,
-    gain: f32,
-    lane: usize,
-    a: f32,
-    held: &[f32],
-    globals: &[f32],
-    samples: &[f32],
-    values: &[f32],
-) -> f32
-    requires { ⌜ Placed view × (lane < mostVoices) ⌝ }
-    ensures { λ r. ⌜ ((t : Env) (f : Rows) (s : Own) (j : ℕ) → IsScene t (job .scene) (job .signals) → Shown t f s j view route (now (held .entry)) (now (globals .entry)) (now (samples .entry)) (now (values .entry)) → r ≡ cond (inSpan t lane) (plus a (times (rawIn t f s j lane route) gain)) a) ⌝ }
-{
-    let scene = job.scene;
-    let voices = scene.voices;
-    let active = voices.active;
-    if !input::in_span(active, scene.stride, lane) {
-        return a;
-    }
-    a + route::raw_in(route, view, lane, held, globals, samples, values) * gain
-}
-
-// a route's products, added in the lanes of the active span
-fn plain_lanes(
-    job: Job,
-    route: Route,
-    view: View,
-    gain: f32,
-    row: [f32; VOICES],
-    held: &[f32],
-    globals: &[f32],
-    samples: &[f32],
-    values: &[f32],
-) -> [f32; VOICES]
-    requires { ⌜ Bounded job × Placed view ⌝ }
-    ensures { λ r. ⌜ ((t : Env) (f : Rows) (s : Own) (j : ℕ) → IsScene t (job .scene) (job .signals) → Shown t f s j view route (now (held .entry)) (now (globals .entry)) (now (samples .entry)) (now (values .entry)) → (l : ℕ) → l < laneCount job → at r l ≡ cond (inSpan t l) (plus (at row l) (times (rawIn t f s j l route) gain)) (at row l)) ⌝ }
-{
-    let n = lane_count(job);
-    let mut out = row;
-    let mut l = 0usize;
-    while l < n {
-        let a = out[l];
-        out[l] = plain_lane(job, route, view, gain, l, a, held, globals, samples, values);
-        l += 1;
-    }
-    out
-}
-
-// Route j added where it is plain, in the lanes of the active span; the others as they are.
-pub fn add_plain(
-    job: Job,
-    j: usize,
-    row: [f32; VOICES],
-    held: &[f32],
-    globals: &[f32],
-    samples: &[f32],
-    values: &[f32],
-) -> [f32; VOICES]
-    requires { ⌜ Bounded job ⌝ }
-    ensures { λ r. ⌜ ((t : Env) (f : Rows) (s : Own) (x : Mix) → Mixes t f s x job (now (held .entry)) (now (globals .entry)) (now (samples .entry)) (now (values .entry)) → j < x .count → (l : ℕ) → l < laneCount job → at r l ≡ cond (inSpan t l) (plainStep t f s x j l (x .route j) (at row l)) (at row l)) ⌝ }
-{
-    let route = route_of(job, j);
-    if !is_plain(job, route) {
-        return row;
-    }
-    let scene = job.scene;
-    let gains = scene.gains;
-    let gain = route.scale * slot_gain(gains, route.slot);
-    if gain == 0.0 {
-        return row;
-    }
-    let view = view_for(job, j, route);
-    plain_lanes(job, route, view, gain, row, held, globals, samples, values)
-}
-
-// every plain route added
-fn add_plains(
-    job: Job,
-    row: [f32; VOICES],
-    held: &[f32],
-    globals: &[f32],
-    samples: &[f32],
-    values: &[f32],
-) -> [f32; VOICES]
-    requires { ⌜ Bounded job ⌝ }
-    ensures { λ r. ⌜ ((t : Env) (f : Rows) (s : Own) (x : Mix) → Mixes t f s x job (now (held .entry)) (now (globals .entry)) (now (samples .entry)) (now (values .entry)) → (l : ℕ) → l < laneCount job → (a : Float) → at row l ≡ cond (inSpan t l) (plus (baseIn t x) (offsets t x (x .count))) a → at r l ≡ cond (inSpan t l) (plains t f s x l (x .count)) a) ⌝ }
-{
-    let count = route_count(job);
-    let mut out = row;
-    let mut j = 0usize;
-    while j < count {
-        let next = add_plain(job, j, out, held, globals, samples, values);
+        let i = route_index(first, j);
+        let stored = routes[i];
+        let route = route_or(first, j, stored);
+        let key = source_key(route);
+        let k = part_index(key);
+        let kept = parts[k];
+        let part = part_or(key, kept);
+        let next = with_route(ground, route, part, out);
         out = next;
         j += 1;
     }
     out
 }
 
-// the plain routes over the base, in the lanes of the active span; the others as they are
+// The sum of the offsets of the plain routes.
+pub fn offsets(job: Job) -> f32
+    ensures { λ r. ⌜ ((t : Env) (x : Mix) → IsJob t x job → r ≡ offsets t x (x .count)) ⌝ }
+{
+    let all = totals_of(job);
+    all.offset
+}
+
+// Whether there is a plain route.
+pub fn some_plain(job: Job) -> bool
+    ensures { λ r. ⌜ ((t : Env) (x : Mix) → IsJob t x job → r ≡ hasPlain t x) ⌝ }
+{
+    let all = totals_of(job);
+    all.some
+}
+
+// Whether every route is plain.
+pub fn all_plain(job: Job) -> bool
+    ensures { λ r. ⌜ ((t : Env) (x : Mix) → IsJob t x job → r ≡ allPlain t x (x .count)) ⌝ }
+{
+    let all = totals_of(job);
+    all.all
+}
+
+// ---- the active span
+
+// the first lane of the first group with an active voice
+fn span_first(active: [bool; VOICES]) -> usize
+    ensures { λ r. ⌜ ((l : ℕ) → l < 64 → leb r l ≡ anyFrom active 0 (groupOf l + lanes)) ⌝ }
+{
+    if input::any_from(active, 0, 16) {
+        return 0;
+    }
+    if input::any_from(active, 0, 32) {
+        return 16;
+    }
+    if input::any_from(active, 0, 48) {
+        return 32;
+    }
+    if input::any_from(active, 0, 64) {
+        return 48;
+    }
+    64
+}
+
+// what is left of n after k
+fn rest(n: usize, k: usize) -> usize
+    ensures { λ r. ⌜ r ≡ n - k ⌝ }
+{
+    if n <= k {
+        return 0;
+    }
+    n - k
+}
+
+// where the last group with an active voice ends
+fn span_end(active: [bool; VOICES], stride: usize) -> usize
+    ensures { λ r. ⌜ ((l : ℕ) → l < 64 → ltb l r ≡ anyFrom active (groupOf l) (stride - groupOf l)) ⌝ }
+{
+    if input::any_from(active, 48, rest(stride, 48)) {
+        return 64;
+    }
+    if input::any_from(active, 32, rest(stride, 32)) {
+        return 48;
+    }
+    if input::any_from(active, 16, rest(stride, 16)) {
+        return 32;
+    }
+    if input::any_from(active, 0, rest(stride, 0)) {
+        return 16;
+    }
+    0
+}
+
+// a span that starts before it ends, within the stride
+fn span_within(first: usize, end: usize, stride: usize) -> Span
+    ensures { λ r. ⌜ (r .first ≤ r .end) × (r .end ≤ stride) × ((l : ℕ) → l < stride → (leb (r .first) l && ltb l (r .end)) ≡ (leb first l && ltb l end)) ⌝ }
+{
+    if stride < end {
+        return span_ordered(first, stride);
+    }
+    span_ordered(first, end)
+}
+
+fn span_ordered(first: usize, end: usize) -> Span
+    ensures { λ r. ⌜ (r .first ≤ r .end) × (r .end ≤ end) × ((l : ℕ) → (leb (r .first) l && ltb l (r .end)) ≡ (leb first l && ltb l end)) ⌝ }
+{
+    if end < first {
+        return Span { first: 0, end: 0 };
+    }
+    Span { first, end }
+}
+
+// The active span of a job.
+pub fn span_of(job: Job) -> Span
+    requires { ⌜ Bounded job ⌝ }
+    ensures { λ r. ⌜ (r .first ≤ r .end) × (r .end ≤ job .scene .stride) × ((t : Env) → IsScene t (job .scene) (job .signals) → Spanned t r) ⌝ }
+{
+    let scene = job.scene;
+    let voices = scene.voices;
+    let active = voices.active;
+    let stride = scene.stride;
+    span_within(span_first(active), span_end(active, stride), stride)
+}
+
+// ---- plain routes
+
+// x in the lanes of the span; the others as they are
+fn span_row(x: f32, span: Span, row: [f32; VOICES]) -> [f32; VOICES]
+    requires { ⌜ (span .first ≤ span .end) × (span .end ≤ 64) ⌝ }
+    ensures { λ r. ⌜ ((l : ℕ) → at r l ≡ cond (leb (span .first) l && ltb l (span .end)) x (at row l)) ⌝ }
+{
+    let end = span.end;
+    let mut out = row;
+    let mut l = span.first;
+    while l < end {
+        out[l] = x;
+        l += 1;
+    }
+    out
+}
+
+// products of the numbers from `start` on, added in the lanes of the span; the others as they are
+fn add_from(start: usize, gain: f32, span: Span, row: [f32; VOICES], xs: &[f32]) -> [f32; VOICES]
+    requires { ⌜ (span .first ≤ span .end) × (span .end ≤ 64) × (start + span .end ≤ length (now xs)) ⌝ }
+    ensures { λ r. ⌜ ((l : ℕ) → at r l ≡ cond (leb (span .first) l && ltb l (span .end)) (plus (at row l) (times (at (now (xs .entry)) (start + l)) gain)) (at row l)) ⌝ }
+{
+    let end = span.end;
+    let mut out = row;
+    let mut l = span.first;
+    while l < end {
+        let a = out[l];
+        let raw = xs[start + l];
+        out[l] = a + raw * gain;
+        l += 1;
+    }
+    out
+}
+
+// products of what a route reads, lane by lane
+fn add_raw(
+    route: Route,
+    view: View,
+    gain: f32,
+    span: Span,
+    row: [f32; VOICES],
+    held: &[f32],
+    globals: &[f32],
+    samples: &[f32],
+    values: &[f32],
+) -> [f32; VOICES]
+    requires { ⌜ Placed view × (span .first ≤ span .end) × (span .end ≤ 64) ⌝ }
+    ensures { λ r. ⌜ ((t : Env) (f : Rows) (s : Own) (j : ℕ) → Shown t f s j view route (now (held .entry)) (now (globals .entry)) (now (samples .entry)) (now (values .entry)) → (l : ℕ) → at r l ≡ cond (leb (span .first) l && ltb l (span .end)) (plus (at row l) (times (rawIn t f s j l route) gain)) (at row l)) ⌝ }
+{
+    let end = span.end;
+    let mut out = row;
+    let mut l = span.first;
+    while l < end {
+        let a = out[l];
+        let raw = route::raw_in(route, view, l, held, globals, samples, values);
+        out[l] = a + raw * gain;
+        l += 1;
+    }
+    out
+}
+
+// whether n numbers from `start` on lie within a length
+fn fits(len: usize, start: usize, n: usize) -> bool
+    ensures { λ r. ⌜ r ≡ leb (start + n) len ⌝ }
+{
+    if len < start {
+        return false;
+    }
+    n <= len - start
+}
+
+// the place of a held row
+fn held_place(voice: bool, source: u8, stride: usize, held: &[f32]) -> Place
+    requires { ⌜ stride ≤ 64 ⌝ }
+    ensures { λ r. ⌜ ((i m : List Float) → Inside r stride (now (held .entry)) i m × ((z : ℕ → Float) → ((l : ℕ) → voice ≡ true → z l ≡ at (now (held .entry)) (source * stride + l)) → (l : ℕ) → Tells r (now (held .entry)) i m l (z l))) ⌝ }
+{
+    if !voice {
+        return Place::Nowhere;
+    }
+    let start = (source as usize) * stride;
+    if !fits(held.len(), start, stride) {
+        return Place::Nowhere;
+    }
+    Place::Held(start)
+}
+
+// the place of the row that starts there in the values
+fn values_place(voice: bool, start: usize, stride: usize, values: &[f32]) -> Place
+    ensures { λ r. ⌜ ((h i : List Float) → Inside r stride h i (now (values .entry)) × ((z : ℕ → Float) → ((l : ℕ) → l < stride → voice ≡ true → z l ≡ at (now (values .entry)) (start + l)) → (l : ℕ) → l < stride → Tells r h i (now (values .entry)) l (z l))) ⌝ }
+{
+    if !voice {
+        return Place::Nowhere;
+    }
+    if !fits(values.len(), start, stride) {
+        return Place::Nowhere;
+    }
+    Place::Values(start)
+}
+
+// the place of a frame's row, where it lies in the part and in the samples
+fn frame_place(from: usize, row: usize, stride: usize, samples: &[f32]) -> Place
+    ensures { λ r. ⌜ ((h m : List Float) → Inside r stride h (now (samples .entry)) m × ((z : ℕ → Float) → ((l : ℕ) → l < stride → z l ≡ at (now (samples .entry)) (from + (row + l))) → (l : ℕ) → l < stride → Tells r h (now (samples .entry)) m l (z l))) ⌝ }
+{
+    if !fits(samples.len(), from, row) {
+        return Place::Nowhere;
+    }
+    let start = from + row;
+    if !fits(samples.len(), start, stride) {
+        return Place::Nowhere;
+    }
+    Place::Samples(start)
+}
+
+// the place of a signal's row
+fn signal_place(
+    voice: bool,
+    part: SignalPart,
+    frame: usize,
+    stride: usize,
+    samples: &[f32],
+) -> Place
+    ensures { λ r. ⌜ ((h m : List Float) → Inside r stride h (now (samples .entry)) m × ((z : ℕ → Float) → ((l : ℕ) → voice ≡ true → z l ≡ sampleIn (now (samples .entry)) part frame true l) → (l : ℕ) → l < stride → Tells r h (now (samples .entry)) m l (z l))) ⌝ }
+{
+    if !voice {
+        return Place::Nowhere;
+    }
+    let wide = input::part_stride(part);
+    if wide < stride {
+        return Place::Nowhere;
+    }
+    let rows = part.len / wide;
+    if rows <= frame {
+        return Place::Nowhere;
+    }
+    frame_place(part.at, frame * wide, stride, samples)
+}
+
+// the place of what an input reads
+fn place_of(read: Read, view: View, held: &[f32], samples: &[f32], values: &[f32]) -> Place
+    requires { ⌜ Placed view ⌝ }
+    ensures { λ r. ⌜ Inside r (view .point .stride) (now (held .entry)) (now (samples .entry)) (now (values .entry)) × ((t : Env) (f : Rows) (s : Own) (j : ℕ) (route : Route) (g : List Float) → route .source .read ≡ read → Shown t f s j view route (now (held .entry)) g (now (samples .entry)) (now (values .entry)) → (l : ℕ) → l < view .point .stride → Tells r (now (held .entry)) (now (samples .entry)) (now (values .entry)) l (rawIn t f s j l route)) ⌝ }
+{
+    let point = view.point;
+    let part = view.source;
+    let stride = point.stride;
+    match read {
+        Read::Signal { source: _, voice } => signal_place(
+            voice,
+            part,
+            point.frame,
+            stride,
+            samples,
+        ),
+        Read::Held { source, voice } => held_place(voice, source, stride, held),
+        Read::Fed { plan, voice } => values_place(
+            voice,
+            input::plan_to(stride, point.chunks, plan),
+            stride,
+            values,
+        ),
+        Read::Constant => Place::Nowhere,
+        Read::RouteRandom => values_place(true, view.own + 2 * stride, stride, values),
+    }
+}
+
+// products of what a route reads, at its place
+fn add_at(
+    place: Place,
+    route: Route,
+    view: View,
+    gain: f32,
+    span: Span,
+    row: [f32; VOICES],
+    held: &[f32],
+    globals: &[f32],
+    samples: &[f32],
+    values: &[f32],
+) -> [f32; VOICES]
+    requires { ⌜ Placed view × (span .first ≤ span .end) × (span .end ≤ view .point .stride) × Inside place (view .point .stride) (now held) (now samples) (now values) ⌝ }
+    ensures { λ r. ⌜ ((t : Env) (f : Rows) (s : Own) (j : ℕ) → Shown t f s j view route (now (held .entry)) (now (globals .entry)) (now (samples .entry)) (now (values .entry)) → ((l : ℕ) → l < view .point .stride → Tells place (now (held .entry)) (now (samples .entry)) (now (values .entry)) l (rawIn t f s j l route)) → (l : ℕ) → l < view .point .stride → at r l ≡ cond (leb (span .first) l && ltb l (span .end)) (plus (at row l) (times (rawIn t f s j l route) gain)) (at row l)) ⌝ }
+{
+    match place {
+        Place::Held(start) => add_from(start, gain, span, row, held),
+        Place::Values(start) => add_from(start, gain, span, row, values),
+        Place::Samples(start) => add_from(start, gain, span, row, samples),
+        Place::Nowhere => add_raw(route, view, gain, span, row, held, globals, samples, values),
+    }
+}
+
+// a route's products, added in the lanes of the span
+fn plain_lanes(
+    route: Route,
+    view: View,
+    gain: f32,
+    span: Span,
+    row: [f32; VOICES],
+    held: &[f32],
+    globals: &[f32],
+    samples: &[f32],
+    values: &[f32],
+) -> [f32; VOICES]
+    requires { ⌜ Placed view × (span .first ≤ span .end) × (span .end ≤ view .point .stride) ⌝ }
+    ensures { λ r. ⌜ ((t : Env) (f : Rows) (s : Own) (j : ℕ) → Shown t f s j view route (now (held .entry)) (now (globals .entry)) (now (samples .entry)) (now (values .entry)) → (l : ℕ) → l < view .point .stride → at r l ≡ cond (leb (span .first) l && ltb l (span .end)) (plus (at row l) (times (rawIn t f s j l route) gain)) (at row l)) ⌝ }
+{
+    let source = route.source;
+    let read = source.read;
+    let place = place_of(read, view, held, samples, values);
+    add_at(
+        place,
+        route,
+        view,
+        gain,
+        span,
+        row,
+        held,
+        globals,
+        samples,
+        values,
+    )
+}
+
+// Route j, whose source reads that part, added where it is plain, in the lanes of the span; the others as they are.
+pub fn add_plain(
+    ground: Ground,
+    span: Span,
+    j: usize,
+    route: Route,
+    part: SignalPart,
+    row: [f32; VOICES],
+    held: &[f32],
+    globals: &[f32],
+    samples: &[f32],
+    values: &[f32],
+) -> [f32; VOICES]
+    requires { ⌜ Based ground × (span .first ≤ span .end) × (span .end ≤ ground .point .stride) ⌝ }
+    ensures { λ r. ⌜ ((t : Env) (f : Rows) (s : Own) (x : Mix) (w : Job) → Mixes t f s x w (now (held .entry)) (now (globals .entry)) (now (samples .entry)) (now (values .entry)) → Chosen w ground j route → j < x .count → part ≡ partFor (w .signals) (route .source .read) → Spanned t span → (l : ℕ) → l < w .scene .stride → at r l ≡ cond (inSpan t l) (plainStep t f s x j l (x .route j) (at row l)) (at row l)) ⌝ }
+{
+    if !is_plain(ground, route, part) {
+        return row;
+    }
+    let gains = ground.gains;
+    let gain = route.scale * slot_gain(gains, route.slot);
+    if gain == 0.0 {
+        return row;
+    }
+    let view = view_for(ground, j, route, part, part);
+    plain_lanes(route, view, gain, span, row, held, globals, samples, values)
+}
+
+// every plain route added
+fn add_plains(
+    job: Job,
+    span: Span,
+    row: [f32; VOICES],
+    held: &[f32],
+    globals: &[f32],
+    samples: &[f32],
+    values: &[f32],
+) -> [f32; VOICES]
+    requires { ⌜ Bounded job × (span .first ≤ span .end) × (span .end ≤ job .scene .stride) ⌝ }
+    ensures { λ r. ⌜ ((t : Env) (f : Rows) (s : Own) (x : Mix) → Mixes t f s x job (now (held .entry)) (now (globals .entry)) (now (samples .entry)) (now (values .entry)) → Spanned t span → (l : ℕ) → l < job .scene .stride → (a : Float) → at row l ≡ cond (inSpan t l) (plus (baseIn t x) (offsets t x (x .count))) a → at r l ≡ cond (inSpan t l) (plains t f s x l (x .count)) a) ⌝ }
+{
+    let ground = ground_of(job);
+    let plan = job.plan;
+    let count = counted(plan.count);
+    let routes = routes_of(job);
+    let signals = job.signals;
+    let parts = parts_of(signals);
+    let first = plan.first;
+    let mut out = row;
+    let mut j = 0usize;
+    while j < count {
+        let i = route_index(first, j);
+        let stored = routes[i];
+        let route = route_or(first, j, stored);
+        let key = source_key(route);
+        let k = part_index(key);
+        let kept = parts[k];
+        let part = part_or(key, kept);
+        let next = add_plain(
+            ground,
+            span,
+            j,
+            route,
+            part,
+            out,
+            held,
+            globals,
+            samples,
+            values,
+        );
+        out = next;
+        j += 1;
+    }
+    out
+}
+
+// the plain routes, with the sum of their offsets, over the base in the lanes of the active span; the others as they are
 fn plain_row(
     job: Job,
-    base: f32,
+    start: f32,
     row: [f32; VOICES],
     held: &[f32],
     globals: &[f32],
@@ -415,18 +840,19 @@ fn plain_row(
     values: &[f32],
 ) -> [f32; VOICES]
     requires { ⌜ Bounded job ⌝ }
-    ensures { λ r. ⌜ ((t : Env) (f : Rows) (s : Own) (x : Mix) → Mixes t f s x job (now (held .entry)) (now (globals .entry)) (now (samples .entry)) (now (values .entry)) → base ≡ baseIn t x → (l : ℕ) → l < laneCount job → at r l ≡ cond (inSpan t l) (plains t f s x l (x .count)) (at row l)) ⌝ }
+    ensures { λ r. ⌜ ((t : Env) (f : Rows) (s : Own) (x : Mix) → Mixes t f s x job (now (held .entry)) (now (globals .entry)) (now (samples .entry)) (now (values .entry)) → start ≡ plus (baseIn t x) (offsets t x (x .count)) → (l : ℕ) → l < job .scene .stride → at r l ≡ cond (inSpan t l) (plains t f s x l (x .count)) (at row l)) ⌝ }
 {
-    let start = base + offsets(job);
-    let begun = span_row(job, start, row);
-    add_plains(job, begun, held, globals, samples, values)
+    let span = span_of(job);
+    let begun = span_row(start, span, row);
+    add_plains(job, span, begun, held, globals, samples, values)
 }
 
 // ---- the other routes
 
 // a route's value in a lane
 fn lane_value(
-    scene: Scene,
+    snap: bool,
+    fresh: [bool; VOICES],
     route: Route,
     view: View,
     lane: usize,
@@ -437,14 +863,13 @@ fn lane_value(
     values: &[f32],
 ) -> f32
     requires { ⌜ Placed view ⌝ }
-    ensures { λ r. ⌜ ((t : Env) (f : Rows) (s : Own) (j : ℕ) → t .snap ≡ scene .snap → t .fresh ≡ scene .fresh → Viewed t f s j view route (now (held .entry)) (now (globals .entry)) (now (tables .entry)) (now (samples .entry)) (now (values .entry)) → r ≡ routeValue t f s j lane route) ⌝ }
+    ensures { λ r. ⌜ ((t : Env) (f : Rows) (s : Own) (j : ℕ) → t .snap ≡ snap → t .fresh ≡ fresh → Viewed t f s j view route (now (held .entry)) (now (globals .entry)) (now (tables .entry)) (now (samples .entry)) (now (values .entry)) → r ≡ routeValue t f s j lane route) ⌝ }
 {
-    let fresh = scene.fresh;
-    let snap = input::snap_of(scene.snap, fresh, route.voice, lane);
+    let snapped = input::snap_of(snap, fresh, route.voice, lane);
     route::route_value(
         route,
         view,
-        snap,
+        snapped,
         lane,
         held,
         globals,
@@ -457,7 +882,8 @@ fn lane_value(
 // a with the route's value in the lane that was found, where one was
 fn add_lane(
     found: Lane,
-    scene: Scene,
+    snap: bool,
+    fresh: [bool; VOICES],
     route: Route,
     view: View,
     a: f32,
@@ -468,13 +894,14 @@ fn add_lane(
     values: &[f32],
 ) -> f32
     requires { ⌜ Placed view ⌝ }
-    ensures { λ r. ⌜ ((t : Env) (f : Rows) (s : Own) (j : ℕ) → t .snap ≡ scene .snap → t .fresh ≡ scene .fresh → Viewed t f s j view route (now (held .entry)) (now (globals .entry)) (now (tables .entry)) (now (samples .entry)) (now (values .entry)) → r ≡ addLane t f s j route a (laneOf found)) ⌝ }
+    ensures { λ r. ⌜ ((t : Env) (f : Rows) (s : Own) (j : ℕ) → t .snap ≡ snap → t .fresh ≡ fresh → Viewed t f s j view route (now (held .entry)) (now (globals .entry)) (now (tables .entry)) (now (samples .entry)) (now (values .entry)) → r ≡ addLane t f s j route a (laneOf found)) ⌝ }
 {
     match found {
         Lane::At(lane) => {
             a
                 + lane_value(
-                    scene,
+                    snap,
+                    fresh,
                     route,
                     view,
                     lane,
@@ -489,9 +916,11 @@ fn add_lane(
     }
 }
 
-// a with the route's value for a lane of the plan
-fn other_lane(
-    job: Job,
+// a with the route's value in a lane whose group has an active voice
+fn add_own(
+    on: bool,
+    snap: bool,
+    fresh: [bool; VOICES],
     route: Route,
     view: View,
     lane: usize,
@@ -503,29 +932,39 @@ fn other_lane(
     values: &[f32],
 ) -> f32
     requires { ⌜ Placed view ⌝ }
-    ensures { λ r. ⌜ ((t : Env) (f : Rows) (s : Own) (j : ℕ) → IsScene t (job .scene) (job .signals) → Viewed t f s j view route (now (held .entry)) (now (globals .entry)) (now (tables .entry)) (now (samples .entry)) (now (values .entry)) → r ≡ addLane t f s j route a (addend t (job .plan .voice) (route .voice) lane)) ⌝ }
+    ensures { λ r. ⌜ ((t : Env) (f : Rows) (s : Own) (j : ℕ) → t .snap ≡ snap → t .fresh ≡ fresh → Viewed t f s j view route (now (held .entry)) (now (globals .entry)) (now (tables .entry)) (now (samples .entry)) (now (values .entry)) → r ≡ cond on (plus a (routeValue t f s j lane route)) a) ⌝ }
 {
-    let plan = job.plan;
-    let scene = job.scene;
-    let voices = scene.voices;
-    let found = input::addend(voices, plan.voice, route.voice, lane);
-    add_lane(
-        found,
-        scene,
-        route,
-        view,
-        a,
-        held,
-        globals,
-        tables,
-        samples,
-        values,
-    )
+    if !on {
+        return a;
+    }
+    a
+        + lane_value(
+            snap,
+            fresh,
+            route,
+            view,
+            lane,
+            held,
+            globals,
+            tables,
+            samples,
+            values,
+        )
 }
 
-// a route's values, added in each lane of the plan
-fn other_lanes(
-    job: Job,
+// a with x, where the lane's group has an active voice
+fn add_same(on: bool, a: f32, x: f32) -> f32
+    ensures { λ r. ⌜ r ≡ cond on (plus a x) a ⌝ }
+{
+    if on {
+        return a + x;
+    }
+    a
+}
+
+// a route's own values, added in each lane whose group has an active voice
+fn own_lanes(
+    reach: Reach,
     route: Route,
     view: View,
     row: [f32; VOICES],
@@ -535,16 +974,22 @@ fn other_lanes(
     samples: &[f32],
     values: &[f32],
 ) -> [f32; VOICES]
-    requires { ⌜ Bounded job × Placed view ⌝ }
-    ensures { λ r. ⌜ ((t : Env) (f : Rows) (s : Own) (j : ℕ) → IsScene t (job .scene) (job .signals) → Viewed t f s j view route (now (held .entry)) (now (globals .entry)) (now (tables .entry)) (now (samples .entry)) (now (values .entry)) → (l : ℕ) → l < laneCount job → at r l ≡ addLane t f s j route (at row l) (addend t (job .plan .voice) (route .voice) l)) ⌝ }
+    requires { ⌜ Placed view × (reach .lanes ≤ 64) ⌝ }
+    ensures { λ r. ⌜ ((t : Env) (f : Rows) (s : Own) (j : ℕ) → Reached t reach → Viewed t f s j view route (now (held .entry)) (now (globals .entry)) (now (tables .entry)) (now (samples .entry)) (now (values .entry)) → (l : ℕ) → l < reach .lanes → at r l ≡ cond (getD (reach .groups) (l / lanes) false) (plus (at row l) (routeValue t f s j l route)) (at row l)) ⌝ }
 {
-    let n = lane_count(job);
+    let n = reach.lanes;
+    let groups = reach.groups;
+    let snap = reach.snap;
+    let fresh = reach.fresh;
     let mut out = row;
     let mut l = 0usize;
     while l < n {
         let a = out[l];
-        out[l] = other_lane(
-            job,
+        let on = groups[l / LANES];
+        out[l] = add_own(
+            on,
+            snap,
+            fresh,
             route,
             view,
             l,
@@ -560,10 +1005,29 @@ fn other_lanes(
     out
 }
 
-// Route j added where it is neither plain nor idle, in each lane of the plan.
-pub fn add_other(
-    job: Job,
-    j: usize,
+// x added in each lane whose group has an active voice
+fn same_lanes(reach: Reach, x: f32, row: [f32; VOICES]) -> [f32; VOICES]
+    requires { ⌜ reach .lanes ≤ 64 ⌝ }
+    ensures { λ r. ⌜ ((l : ℕ) → l < reach .lanes → at r l ≡ cond (getD (reach .groups) (l / lanes) false) (plus (at row l) x) (at row l)) ⌝ }
+{
+    let n = reach.lanes;
+    let groups = reach.groups;
+    let mut out = row;
+    let mut l = 0usize;
+    while l < n {
+        let a = out[l];
+        let on = groups[l / LANES];
+        out[l] = add_same(on, a, x);
+        l += 1;
+    }
+    out
+}
+
+// a route's values, added in each lane of a plan per voice
+fn voice_row(
+    reach: Reach,
+    route: Route,
+    view: View,
     row: [f32; VOICES],
     held: &[f32],
     globals: &[f32],
@@ -571,19 +1035,107 @@ pub fn add_other(
     samples: &[f32],
     values: &[f32],
 ) -> [f32; VOICES]
-    requires { ⌜ Bounded job ⌝ }
-    ensures { λ r. ⌜ ((t : Env) (f : Rows) (s : Own) (x : Mix) → Mixes t f s x job (now (held .entry)) (now (globals .entry)) (now (samples .entry)) (now (values .entry)) → Works t (pointOf (job .scene) (job .chunks)) (now (tables .entry)) → j < x .count → (l : ℕ) → l < laneCount job → at r l ≡ otherStep t f s x j l (x .route j) (at row l)) ⌝ }
+    requires { ⌜ Placed view × (reach .lanes ≤ 64) ⌝ }
+    ensures { λ r. ⌜ ((t : Env) (f : Rows) (s : Own) (j : ℕ) → Reached t reach → Viewed t f s j view route (now (held .entry)) (now (globals .entry)) (now (tables .entry)) (now (samples .entry)) (now (values .entry)) → (l : ℕ) → l < reach .lanes → at r l ≡ addLane t f s j route (at row l) (addend t true (route .voice) l)) ⌝ }
 {
-    let route = route_of(job, j);
-    if is_plain(job, route) {
-        return row;
+    if route.voice {
+        return own_lanes(
+            reach,
+            route,
+            view,
+            row,
+            held,
+            globals,
+            tables,
+            samples,
+            values,
+        );
     }
-    let view = view_for(job, j, route);
-    if route::idle(route, view.amount, view.output) {
-        return row;
+    let snap = reach.snap;
+    let fresh = reach.fresh;
+    let x = lane_value(
+        snap,
+        fresh,
+        route,
+        view,
+        0,
+        held,
+        globals,
+        tables,
+        samples,
+        values,
+    );
+    same_lanes(reach, x, row)
+}
+
+// a route's value, added in the one lane of a plan that is not per voice
+fn one_row(
+    reach: Reach,
+    route: Route,
+    view: View,
+    row: [f32; VOICES],
+    held: &[f32],
+    globals: &[f32],
+    tables: &[f32],
+    samples: &[f32],
+    values: &[f32],
+) -> [f32; VOICES]
+    requires { ⌜ Placed view ⌝ }
+    ensures { λ r. ⌜ ((t : Env) (f : Rows) (s : Own) (j : ℕ) → Reached t reach → Viewed t f s j view route (now (held .entry)) (now (globals .entry)) (now (tables .entry)) (now (samples .entry)) (now (values .entry)) → at r 0 ≡ addLane t f s j route (at row 0) (addend t false (route .voice) 0)) ⌝ }
+{
+    let voices = reach.voices;
+    let snap = reach.snap;
+    let fresh = reach.fresh;
+    let found = input::addend(voices, false, route.voice, 0);
+    let mut out = row;
+    let a = out[0];
+    out[0] = add_lane(
+        found,
+        snap,
+        fresh,
+        route,
+        view,
+        a,
+        held,
+        globals,
+        tables,
+        samples,
+        values,
+    );
+    out
+}
+
+// a route's values, added in each lane of the plan
+fn other_lanes(
+    voice: bool,
+    reach: Reach,
+    route: Route,
+    view: View,
+    row: [f32; VOICES],
+    held: &[f32],
+    globals: &[f32],
+    tables: &[f32],
+    samples: &[f32],
+    values: &[f32],
+) -> [f32; VOICES]
+    requires { ⌜ Placed view × (reach .lanes ≤ 64) × (voice ≡ false → reach .lanes ≤ 1) ⌝ }
+    ensures { λ r. ⌜ ((t : Env) (f : Rows) (s : Own) (j : ℕ) → Reached t reach → Viewed t f s j view route (now (held .entry)) (now (globals .entry)) (now (tables .entry)) (now (samples .entry)) (now (values .entry)) → (l : ℕ) → l < reach .lanes → at r l ≡ addLane t f s j route (at row l) (addend t voice (route .voice) l)) ⌝ }
+{
+    if voice {
+        return voice_row(
+            reach,
+            route,
+            view,
+            row,
+            held,
+            globals,
+            tables,
+            samples,
+            values,
+        );
     }
-    other_lanes(
-        job,
+    one_row(
+        reach,
         route,
         view,
         row,
@@ -593,6 +1145,75 @@ pub fn add_other(
         samples,
         values,
     )
+}
+
+// Route j, whose inputs read these parts, added where it is neither plain nor idle, in each lane of the plan.
+pub fn add_other(
+    ground: Ground,
+    reach: Reach,
+    j: usize,
+    route: Route,
+    source: SignalPart,
+    aux: SignalPart,
+    row: [f32; VOICES],
+    held: &[f32],
+    globals: &[f32],
+    tables: &[f32],
+    samples: &[f32],
+    values: &[f32],
+) -> [f32; VOICES]
+    requires { ⌜ Based ground × (reach .lanes ≤ 64) × (ground .voice ≡ false → reach .lanes ≤ 1) ⌝ }
+    ensures { λ r. ⌜ ((t : Env) (f : Rows) (s : Own) (x : Mix) (w : Job) → Mixes t f s x w (now (held .entry)) (now (globals .entry)) (now (samples .entry)) (now (values .entry)) → Works t (pointOf (w .scene) (w .chunks)) (now (tables .entry)) → Chosen w ground j route → Reached t reach → j < x .count → source ≡ partFor (w .signals) (route .source .read) → aux ≡ auxPart (w .signals) (route .aux) → (l : ℕ) → l < reach .lanes → at r l ≡ otherStep t f s x j l (x .route j) (at row l)) ⌝ }
+{
+    if is_plain(ground, route, source) {
+        return row;
+    }
+    let view = view_for(ground, j, route, source, aux);
+    if route::idle(route, view.amount, view.output) {
+        return row;
+    }
+    other_lanes(
+        ground.voice,
+        reach,
+        route,
+        view,
+        row,
+        held,
+        globals,
+        tables,
+        samples,
+        values,
+    )
+}
+
+// The lanes that the other routes of a job are added in.
+pub fn reach_of(job: Job) -> Reach
+    requires { ⌜ Bounded job ⌝ }
+    ensures { λ r. ⌜ (r .lanes ≡ laneCount job) × (r .lanes ≤ 64) × ((t : Env) → IsScene t (job .scene) (job .signals) → Reached t r) ⌝ }
+{
+    let scene = job.scene;
+    let voices = scene.voices;
+    let fresh = scene.fresh;
+    let active = voices.active;
+    let groups = groups_of(active);
+    Reach {
+        lanes: lane_count(job),
+        groups,
+        voices,
+        fresh,
+        snap: scene.snap,
+    }
+}
+
+// which groups have an active voice
+fn groups_of(active: [bool; VOICES]) -> [bool; GROUPS]
+    ensures { λ r. ⌜ ((t : Env) → t .voices .active ≡ active → (l : ℕ) → l < 64 → getD r (l / lanes) false ≡ inGroup t l) ⌝ }
+{
+    let a = input::in_group(active, 0);
+    let b = input::in_group(active, 16);
+    let c = input::in_group(active, 32);
+    let d = input::in_group(active, 48);
+    [a, b, c, d]
 }
 
 // every other route added
@@ -608,11 +1229,42 @@ fn add_others(
     requires { ⌜ Bounded job ⌝ }
     ensures { λ r. ⌜ ((t : Env) (f : Rows) (s : Own) (x : Mix) → Mixes t f s x job (now (held .entry)) (now (globals .entry)) (now (samples .entry)) (now (values .entry)) → Works t (pointOf (job .scene) (job .chunks)) (now (tables .entry)) → (l : ℕ) → l < laneCount job → at r l ≡ others t f s x l (at row l) (x .count)) ⌝ }
 {
-    let count = route_count(job);
+    let ground = ground_of(job);
+    let reach = reach_of(job);
+    let plan = job.plan;
+    let count = counted(plan.count);
+    let routes = routes_of(job);
+    let signals = job.signals;
+    let parts = parts_of(signals);
+    let first = plan.first;
     let mut out = row;
     let mut j = 0usize;
     while j < count {
-        let next = add_other(job, j, out, held, globals, tables, samples, values);
+        let i = route_index(first, j);
+        let stored = routes[i];
+        let route = route_or(first, j, stored);
+        let key = source_key(route);
+        let k = part_index(key);
+        let kept = parts[k];
+        let source = part_or(key, kept);
+        let other = route_aux_key(route);
+        let m = part_index(other);
+        let spare = parts[m];
+        let aux = part_or(other, spare);
+        let next = add_other(
+            ground,
+            reach,
+            j,
+            route,
+            source,
+            aux,
+            out,
+            held,
+            globals,
+            tables,
+            samples,
+            values,
+        );
         out = next;
         j += 1;
     }
@@ -634,10 +1286,13 @@ fn tick_begun(
     ensures { λ r. ⌜ ((t : Env) (f : Rows) (s : Own) (x : Mix) → Mixes t f s x job (now (held .entry)) (now (globals .entry)) (now (samples .entry)) (now (values .entry)) → base ≡ baseIn t x → (l : ℕ) → l < laneCount job → at r l ≡ begun t f s x l) ⌝ }
 {
     let row = [base; VOICES];
-    if !some_plain(job) {
+    let all = totals_of(job);
+    let some = all.some;
+    let offset = all.offset;
+    if !some {
         return row;
     }
-    plain_row(job, base, row, held, globals, samples, values)
+    plain_row(job, base + offset, row, held, globals, samples, values)
 }
 
 // The sum of a destination at a tick, in each lane of its row.
@@ -671,10 +1326,13 @@ fn audio_begun(
     requires { ⌜ Bounded job ⌝ }
     ensures { λ r. ⌜ ((t : Env) (f : Rows) (s : Own) (x : Mix) → Mixes t f s x job (now (held .entry)) (now (globals .entry)) (now (samples .entry)) (now (values .entry)) → base ≡ baseIn t x → (l : ℕ) → l < laneCount job → at r l ≡ audioBegun t f s x (at old l) l) ⌝ }
 {
-    if !some_plain(job) {
+    let all = totals_of(job);
+    let some = all.some;
+    let offset = all.offset;
+    if !some {
         return [base; VOICES];
     }
-    plain_row(job, base, old, held, globals, samples, values)
+    plain_row(job, base + offset, old, held, globals, samples, values)
 }
 
 // The sum of a destination in audio, in each lane of its row, where `old` stands there.

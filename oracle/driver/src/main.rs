@@ -10,7 +10,7 @@ use lspk_dsp::lfo::{ENTRIES, Shape};
 use lspk_dsp::simd;
 use lspk_mod::curve::diagonal;
 use lspk_mod::dest::DestError;
-use lspk_mod::source::SourceError;
+use lspk_mod::source::{SourceError, Standard};
 use lspk_mod::{
     Config, Curve, DestId, DestinationInfo, Destinations, DrawnCurve, Engine, Feed, Matrix, NoteOn,
     Output, Polarity, Program, Rate, Scope, Signals, Slot, SourceId, SourceInfo, SourceKind,
@@ -118,6 +118,28 @@ fn scope(s: &str) -> Res<Scope> {
         "g" => Ok(Scope::Global),
         _ => Err(format!("scope {s}")),
     }
+}
+
+/// A source as the line `source` has it.
+fn entry(s: &SourceInfo) -> String {
+    let kind = match s.kind {
+        SourceKind::Signal => "signal",
+        SourceKind::Audio => "audio",
+        SourceKind::Held => "held",
+        SourceKind::Velocity => "velocity",
+        SourceKind::Key => "key",
+        SourceKind::ReleaseVelocity => "release",
+        SourceKind::Random => "random",
+        SourceKind::Alternate { inverse: false } => "alt",
+        SourceKind::Alternate { inverse: true } => "altinv",
+        SourceKind::RandomPerRoute => "routerandom",
+        SourceKind::VoiceLoad => "load",
+        SourceKind::Constant => "constant",
+    };
+    let scope = if s.scope == Scope::Voice { "v" } else { "g" };
+    let range = if s.range == SourceRange::Unipolar { "u" } else { "b" };
+    let key = if s.key.is_empty() { "~" } else { &s.key };
+    format!("{key} {kind} {scope} {range}")
 }
 
 fn kind(s: &str) -> Res<SourceKind> {
@@ -479,6 +501,24 @@ impl Session {
                     Err(SourceError::DuplicateKey(_)) => writeln!(self.out, "SOURCE duplicate"),
                     Err(SourceError::Full) => writeln!(self.out, "SOURCE full"),
                 };
+            }
+            ["standard", envelopes, lfos, macros, values, audio @ ..] => {
+                let keys: Vec<(&str, &str)> = audio
+                    .iter()
+                    .map(|k| (if *k == "~" { "" } else { *k }, ""))
+                    .collect();
+                let made = Sources::standard(&Standard {
+                    envelopes: int(envelopes)?,
+                    lfos: int(lfos)?,
+                    macros: int(macros)?,
+                    sequence_values: int(values)?,
+                    audio: &keys,
+                });
+                let _ = writeln!(self.out, "STANDARD {}", made.len());
+                for (id, s) in made.iter() {
+                    let _ = writeln!(self.out, "ENTRY {} {}", id.0, entry(s));
+                }
+                self.sources = made;
             }
             ["dest", t, s, rate, min, max, f] => {
                 let r = self.dests.add(DestinationInfo {

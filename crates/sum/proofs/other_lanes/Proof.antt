@@ -1,83 +1,21 @@
--- `sum::other_lanes` meets its contract. The invariant: the lanes below l are added to.
+-- `sum::other_lanes` meets its contract.
 use borrow.Author.Needs.{needs}
-use mathlib.Core.Path.{_≡_}
-use mathlib.Core.List.{List}
-use Prim.Native.Nat.{ℕ, _-_, _≤_}
+use mathlib.Core.Path.{_≡_, refl, sym, ap, _∙_}
 use native.Mathlib.Omega.{arith}
-use lib.ListN.{length}
-use lib.Ieee.{Float}
-use Rattle.state.specs.declared.Route.{Route}
-use Rattle.model.specs.Env.{Env, Rows, Own}
-use Rattle.model.specs.Lanes.{addend}
-use Rattle.model.specs.Sums.{addLane}
-use Rattle.route.specs.declared.View.{View}
-use Rattle.route.specs.View.{Viewed}
-use Rattle.sum.specs.declared.Job.{Job}
-use Rattle.sum.specs.Job.{IsScene}
-use Rattle.sum.proofs.Lanes.{Laned, laned-none, laned-more}
 use Rattle.sum.proofs.other_lanes.Statement.{statement}
 use Rattle.sum.proofs.other_lanes.Tie as tie
 
--- what is stored in a lane, of what stood there
-abbrev Each : Job → Route → View → List Float → List Float → List Float → List Float → List Float → ℕ → Float → Float → Type 0
-Each job route view held globals tables samples values l a z = (t : Env) (f : Rows) (s : Own) (j : ℕ) → IsScene t (job .scene) (job .signals) → Viewed t f s j view route held globals tables samples values → z ≡ addLane t f s j route a (addend t (job .plan .voice) (route .voice) l)
+voice-row-requires : tie.Need-voice-row-requires
+voice-row-requires c κs = search needs
 
-abbrev Inv-loop : tie.InvT-loop
-Inv-loop job route view held globals tables samples values n out₀ l₀ out l = (l ≤ n) × Laned (Each job route view held globals tables samples values) l out₀ out
+returns : tie.Need-returns
+returns c = λ t f s j re v l h. rw (c .before .if1 .taken) (c .voice-row .ensures t f s j re v l h)
 
-abbrev μ-loop : tie.MeasureT-loop
-μ-loop job route view held globals tables samples values n out₀ l₀ out l = n - l
+one-row-requires : tie.Need-one-row-requires
+one-row-requires c κs = search needs
 
-lane-count-requires : tie.Need-lane-count-requires Inv-loop μ-loop
-lane-count-requires c κs = search needs
-
-loop-holds : tie.Need-loop-holds Inv-loop μ-loop
-loop-holds c = (omega arith, laned-none _ _)
-
-mul-a : tie.Need-mul-a Inv-loop μ-loop
-mul-a c = search needs
-
-array-read-a : tie.Need-array-read-a Inv-loop μ-loop
-array-read-a c = search needs
-
-other-lane-requires : tie.Need-other-lane-requires Inv-loop μ-loop
-other-lane-requires c κs = search needs
-
-mul-out : tie.Need-mul-out Inv-loop μ-loop
-mul-out c = search needs
-
-array-write-out : tie.Need-array-write-out Inv-loop μ-loop
-array-write-out c = search needs
-
-add-l : tie.Need-add-l Inv-loop μ-loop
-add-l c = omega arith
-
-loop-less : tie.Need-loop-less Inv-loop μ-loop
-loop-less c = omega arith
-
-loop-again : tie.Need-loop-again Inv-loop μ-loop
-loop-again c = let l = c .before .before .loop in
-    let a = c .before .before .before .before .before .before .before .before .before .args in
-    let long : length (a .row) ≡ 64 = search (needs, c .before .before .before .before .before .before .before .before .before .good .1 .1 .1 .0) in
-    (omega arith, laned-more (l .inv .1) (omega (arith, c .before .before .before .lane-count .ensures .1)) (c .other-lane .ensures))
-
-returns : tie.Need-returns Inv-loop μ-loop
-returns c = λ t f s j sc v l h. c .before .loop .inv .1 .done l (omega (arith, c .before .before .lane-count .ensures .0, h)) t f s j sc v
+returns-2 : tie.Need-returns-2
+returns-2 c = λ t f s j re v l h. let z : l ≡ 0 = omega (arith, c .before .before .before .before .before .before .before .pre .2 (c .before .if1 .left), h) in rw (c .before .if1 .left, z) (c .one-row .ensures t f s j re v)
 
 pub other-lanes-spec : {M : Type 1} → statement M
-other-lanes-spec =
-    tie.close
-    (tie.spec
-    Inv-loop
-    μ-loop
-    lane-count-requires
-    loop-holds
-    mul-a
-    array-read-a
-    other-lane-requires
-    mul-out
-    array-write-out
-    add-l
-    loop-less
-    loop-again
-    returns)
+other-lanes-spec = tie.close (tie.spec voice-row-requires returns one-row-requires returns-2)

@@ -1,84 +1,17 @@
--- `sum::plain_lanes` meets its contract. The invariant: the lanes below l are added to.
+-- `sum::plain_lanes` meets its contract.
 use borrow.Author.Needs.{needs}
-use mathlib.Core.Path.{_≡_}
-use mathlib.Core.Bool.{cond}
-use mathlib.Core.List.{List}
-use Prim.Native.Nat.{ℕ, _-_, _≤_}
-use native.Mathlib.Omega.{arith}
-use lib.ListN.{length}
-use lib.Ieee.{Float}
-use Rattle.number.specs.Number.{plus, times}
-use Rattle.state.specs.declared.Route.{Route}
-use Rattle.model.specs.Env.{Env, Rows, Own}
-use Rattle.model.specs.Lanes.{inSpan}
-use Rattle.model.specs.RouteValue.{rawIn}
-use Rattle.route.specs.declared.View.{View}
-use Rattle.sum.specs.declared.Job.{Job}
-use Rattle.sum.specs.Job.{IsScene, Shown}
-use Rattle.sum.proofs.Lanes.{Laned, laned-none, laned-more}
+use mathlib.Core.Path.{_≡_, refl, sym, ap, _∙_}
 use Rattle.sum.proofs.plain_lanes.Statement.{statement}
 use Rattle.sum.proofs.plain_lanes.Tie as tie
 
--- what is stored in a lane, of what stood there
-abbrev Each : Job → Route → View → Float → List Float → List Float → List Float → List Float → ℕ → Float → Float → Type 0
-Each job route view gain held globals samples values l a z = (t : Env) (f : Rows) (s : Own) (j : ℕ) → IsScene t (job .scene) (job .signals) → Shown t f s j view route held globals samples values → z ≡ cond (inSpan t l) (plus a (times (rawIn t f s j l route) gain)) a
+place-of-requires : tie.Need-place-of-requires
+place-of-requires c κs = search needs
 
-abbrev Inv-loop : tie.InvT-loop
-Inv-loop job route view gain held globals samples values n out₀ l₀ out l = (l ≤ n) × Laned (Each job route view gain held globals samples values) l out₀ out
+add-at-requires : tie.Need-add-at-requires
+add-at-requires c κs = search needs
 
-abbrev μ-loop : tie.MeasureT-loop
-μ-loop job route view gain held globals samples values n out₀ l₀ out l = n - l
-
-lane-count-requires : tie.Need-lane-count-requires Inv-loop μ-loop
-lane-count-requires c κs = search needs
-
-loop-holds : tie.Need-loop-holds Inv-loop μ-loop
-loop-holds c = (omega arith, laned-none _ _)
-
-mul-a : tie.Need-mul-a Inv-loop μ-loop
-mul-a c = search needs
-
-array-read-a : tie.Need-array-read-a Inv-loop μ-loop
-array-read-a c = search needs
-
-plain-lane-requires : tie.Need-plain-lane-requires Inv-loop μ-loop
-plain-lane-requires c κs = search needs
-
-mul-out : tie.Need-mul-out Inv-loop μ-loop
-mul-out c = search needs
-
-array-write-out : tie.Need-array-write-out Inv-loop μ-loop
-array-write-out c = search needs
-
-add-l : tie.Need-add-l Inv-loop μ-loop
-add-l c = omega arith
-
-loop-less : tie.Need-loop-less Inv-loop μ-loop
-loop-less c = omega arith
-
-loop-again : tie.Need-loop-again Inv-loop μ-loop
-loop-again c = let l = c .before .before .loop in
-    let a = c .before .before .before .before .before .before .before .before .args in
-    let long : length (a .row) ≡ 64 = search (needs, c .before .before .before .before .before .before .before .before .good .1 .1 .1 .1 .0) in
-    (omega arith, laned-more (l .inv .1) (omega (arith, c .before .before .before .lane-count .ensures .1)) (c .plain-lane .ensures))
-
-returns : tie.Need-returns Inv-loop μ-loop
-returns c = λ t f s j sc v l h. c .before .loop .inv .1 .done l (omega (arith, c .before .before .lane-count .ensures .0, h)) t f s j sc v
+returns : tie.Need-returns
+returns c = λ t f s j v l b. c .add-at .ensures t f s j v (c .before .place-of .ensures .1 t f s j _ _ refl v) l b
 
 pub plain-lanes-spec : {M : Type 1} → statement M
-plain-lanes-spec =
-    tie.close
-    (tie.spec
-    Inv-loop
-    μ-loop
-    lane-count-requires
-    loop-holds
-    mul-a
-    array-read-a
-    plain-lane-requires
-    mul-out
-    array-write-out
-    add-l
-    loop-less
-    loop-again
-    returns)
+plain-lanes-spec = tie.close (tie.spec place-of-requires add-at-requires returns)

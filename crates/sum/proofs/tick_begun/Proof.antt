@@ -1,20 +1,24 @@
 -- `sum::tick_begun` meets its contract.
 use borrow.Author.Needs.{needs}
+use mathlib.Core.Path.{ap, _∙_}
 use native.Mathlib.Omega.{arith}
 use lib.ListN.{getD-replicate}
-use lib.Ieee.{nan}
+use lib.Ieee.{Float, nan}
+use Rattle.number.specs.Number.{plus}
+use Rattle.model.specs.Sums.{baseIn}
+use Rattle.input.proofs.Tests.{was-true}
 use Rattle.sum.proofs.Found.{lanes-most}
-use Rattle.sum.proofs.Steps.{begun-bare, begun-plain}
+use Rattle.sum.proofs.Steps.{begun-bare, begun-plain, plain-wide}
 use Rattle.sum.proofs.tick_begun.Statement.{statement}
 use Rattle.sum.proofs.tick_begun.Tie as tie
 
-some-plain-requires : tie.Need-some-plain-requires
-some-plain-requires c κs = search needs
+totals-of-requires : tie.Need-totals-of-requires
+totals-of-requires c κs = search needs
 
 returns : tie.Need-returns
 returns c = λ t f s x k e l b.
     let a = c .before .before .before .before .before .before .args in
-    begun-bare t f s x l (c .before .some-plain .ensures t x (k .job)) (c .if1 .taken) (getD-replicate 64 l (a .base) nan (omega (arith, lanes-most (a .job) (c .before .before .before .before .before .before .pre), b))) e
+    begun-bare t f s x l (c .before .totals-of .ensures t x (k .job) .some) (c .if1 .taken) (getD-replicate 64 l (a .base) nan (omega (arith, lanes-most (a .job) (c .before .before .before .before .before .before .pre), b))) e
 
 plain-row-requires : tie.Need-plain-row-requires
 plain-row-requires c κs = search needs
@@ -22,7 +26,9 @@ plain-row-requires c κs = search needs
 returns-2 : tie.Need-returns-2
 returns-2 c = λ t f s x k e l b.
     let a = c .before .before .before .before .before .before .before .args in
-    begun-plain t f s x l (c .before .before .some-plain .ensures t x (k .job)) (c .before .if1 .left) (c .plain-row .ensures t f s x k e l b) (getD-replicate 64 l (a .base) nan (omega (arith, lanes-most (a .job) (c .before .before .before .before .before .before .before .pre), b))) e
+    let all = c .before .before .totals-of .ensures t x (k .job) in
+    let wide = plain-wide l (k .job) (was-true (all .some) (c .before .if1 .left)) b in
+    begun-plain t f s x l (all .some) (c .before .if1 .left) (c .plain-row .ensures t f s x k (ap (λ (z : Float). plus z (c .before .before .totals-of .result .offset)) e ∙ ap (plus (baseIn t x)) (all .offset)) l wide) (getD-replicate 64 l (a .base) nan (omega (arith, lanes-most (a .job) (c .before .before .before .before .before .before .before .pre), b))) e
 
 pub tick-begun-spec : {M : Type 1} → statement M
-tick-begun-spec = tie.close (tie.spec some-plain-requires returns plain-row-requires returns-2)
+tick-begun-spec = tie.close (tie.spec totals-of-requires returns plain-row-requires returns-2)
