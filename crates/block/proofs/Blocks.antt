@@ -124,10 +124,6 @@ drawn-keeps st d = record { config = refl; sources = refl; program = refl }
 
 -- ---- the block
 
-pub routeless-is : (len : ℕ) (block : Block) (w x o : World) → block ≡ noBlock → x ≡ glided len w → o ≡ closedWorld block len x → o ≡ routelessWorld len w
-unfolding routelessWorld
-routeless-is len block w x o e f g = g ∙ ap (λ (d : Block). closedWorld d len x) e ∙ ap (closedWorld noBlock len) f
-
 module _ (samples : List Float) (signals : Signals) (start end : ℕ) (w : World) where
   pub routed-is : (b : Block) (x y z o : World) → b ≡ blockOf (w .state) start end → x ≡ loadedWorld w → y ≡ drawnWorld x
       → z ≡ chunkSteps samples signals b (chunkTotal b) y → o ≡ closedWorld b (end - start) z → o ≡ routedWorld samples signals start end w

@@ -13,6 +13,7 @@ ghost use Rattle.number.specs.Number.{zero32, nearest32};
 ghost use Rattle.model.specs.Counts.{voiceCount, frameCount, strideOf, chunksMost, engineSources, planTotal, routeTotal};
 ghost use Rattle.model.specs.Tick.{offPhase, tickOf};
 ghost use Rattle.model.specs.Chunks.{chunkTotal};
+ghost use Rattle.model.specs.States.{withVelocity, withKey};
 ghost use Rattle.model.specs.World.{worldOf};
 ghost use Rattle.model.specs.Process.{valuesOf, glided, ticked, rowed, sounded, chunkStep, chunkSteps, blockOf, noBlock};
 ghost use Rattle.input.specs.Scene.{envOf};
@@ -35,6 +36,7 @@ use state::Block;
 use state::Chunk;
 use state::Signals;
 use state::State;
+use voice::Notes;
 
 // ---- a chunk
 
@@ -459,14 +461,59 @@ fn no_block() -> Block
     }
 }
 
+// the state after a block of so many frames without routes, once the notes have moved
+fn quiet(state: State, velocity: Notes, key: Notes, len: usize) -> State
+    ensures { λ r. ⌜ ((h g a v b t : List Float) → worldOf r h g a v b t ≡ closedWorld noBlock len (worldOf (withKey (withVelocity state velocity) key) h g a v b t)) ⌝ }
+{
+    let phase = state.phase % PERIOD;
+    let moved = (phase + len % PERIOD) % PERIOD;
+    let marks = state.marks;
+    let cleared = marks.cleared();
+    let block = no_block();
+    let mut next = state;
+    next.velocity = velocity;
+    next.key = key;
+    next.phase = moved;
+    next.marks = cleared;
+    next.block = block;
+    next
+}
+
 // A block of so many frames without routes.
 pub fn routeless(held: &mut [f32], state: State, len: usize) -> State
     requires { ⌜ strideOf state * engineSources state ≤ length (now held) ⌝ }
     ensures { λ r. ⌜ ((g a v b t : List Float) → worldOf r (now (held .exit)) g a v b t ≡ routelessWorld len (worldOf state (now (held .entry)) g a v b t)) ⌝ }
 {
-    let moved = glided(held, state, len);
-    let block = no_block();
-    closed(moved, block, len)
+    let config = state.config;
+    let mark = state.mark;
+    let velocity = state.velocity;
+    let key = state.key;
+    let stride = config::lane_stride(config.voices);
+    let sources = opening::at_most(state.sources, SOURCES);
+    let n = opening::at_most(config.voices, VOICES);
+    let velocity_next = velocity.advance(len);
+    let key_next = key.advance(len);
+    opening::moved_held(
+        held,
+        mark,
+        NoteValue::Velocity,
+        stride,
+        sources,
+        n,
+        velocity,
+        velocity_next,
+    );
+    opening::moved_held(
+        held,
+        mark,
+        NoteValue::Key,
+        stride,
+        sources,
+        n,
+        key,
+        key_next,
+    );
+    quiet(state, velocity_next, key_next, len)
 }
 
 // A block with routes.
