@@ -4,3 +4,4 @@ pub mod Marks
 pub mod Rows
 pub mod Lanes
 pub mod Reading
+pub mod Parts

@@ -1,3 +1,4 @@
 pub mod Scene
 pub mod Reads
 pub mod Lane
+pub mod Signal

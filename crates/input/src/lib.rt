@@ -15,6 +15,7 @@ ghost use Rattle.model.specs.Lanes.{anyFrom, groupOf, inGroup, sounding, inSpan
 ghost use Rattle.model.specs.Layout.{planSize, planTo};
 ghost use Rattle.model.specs.Tick.{lanesFrom};
 ghost use Rattle.input.specs.Lane.{laneOf};
+ghost use Rattle.input.specs.Signal.{signalIn};
 ghost use Rattle.input.specs.Reads.{Sized, IsRows, Reads, Works, partFor, fedFrom, heldAt, pointOf};
 use config::LANES;
 use config::SOURCES;
@@ -194,8 +195,8 @@ fn in_frame(samples: &[f32], part: SignalPart, frame: usize, stride: usize, lane
     in_part(samples, part, start + lane)
 }
 
-// A signal in a lane at a frame.
-pub fn sample_in(samples: &[f32], part: SignalPart, frame: usize, voice: bool, lane: usize) -> f32
+// a part in a lane at a frame; a number of it that the samples have not got is a NaN
+fn sample_at(samples: &[f32], part: SignalPart, frame: usize, voice: bool, lane: usize) -> f32
     ensures { λ r. ⌜ r ≡ sampleIn (now (samples .entry)) part frame voice lane ⌝ }
 {
     let stride = part_stride(part);
@@ -206,6 +207,54 @@ pub fn sample_in(samples: &[f32], part: SignalPart, frame: usize, voice: bool, l
         return 0.0;
     }
     in_frame(samples, part, frame, stride, lane)
+}
+
+// what `Signal::read` reads, of the slice and the stride apart
+fn signal_in(samples: &[f32], stride: usize, frame: usize, voice: bool, lane: usize) -> f32
+    ensures { λ r. ⌜ r ≡ signalIn (now (samples .entry)) stride frame voice lane ⌝ }
+{
+    let len = samples.len();
+    let whole = SignalPart { at: 0, len, stride };
+    sample_at(samples, whole, frame, voice, lane)
+}
+
+// A signal: its part of the lent samples, with its stride.
+pub struct Signal<'a> {
+    pub samples: &'a [f32],
+    pub stride: usize,
+}
+
+impl<'a> Signal<'a> {
+    // The signal in a lane at a frame.
+    pub fn read(self, frame: usize, voice: bool, lane: usize) -> f32
+        ensures { λ r. ⌜ r ≡ signalIn (now (self .entry .samples)) (self .entry .stride) frame voice lane ⌝ }
+    {
+        signal_in(self.samples, self.stride, frame, voice, lane)
+    }
+}
+
+// the samples of a signal and its stride as one record, read
+fn read_signal(samples: &[f32], stride: usize, frame: usize, voice: bool, lane: usize) -> f32
+    ensures { λ r. ⌜ r ≡ signalIn (now (samples .entry)) stride frame voice lane ⌝ }
+{
+    Signal { samples, stride }.read(frame, voice, lane)
+}
+
+// A signal in a lane at a frame. It is read as a record where its part lies inside the samples, which `process` sees to (row 14).
+pub fn sample_in(samples: &[f32], part: SignalPart, frame: usize, voice: bool, lane: usize) -> f32
+    ensures { λ r. ⌜ r ≡ sampleIn (now (samples .entry)) part frame voice lane ⌝ }
+{
+    let at = part.at;
+    let len = part.len;
+    let all = samples.len();
+    if all < at {
+        return sample_at(samples, part, frame, voice, lane);
+    }
+    if all - at < len {
+        return sample_at(samples, part, frame, voice, lane);
+    }
+    let end = at + len;
+    read_signal(&samples[at..end], part.stride, frame, voice, lane)
 }
 
 // The part of a source that is not bound.

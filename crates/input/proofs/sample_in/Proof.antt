@@ -1,45 +1,58 @@
--- `input::sample_in` meets its contract.
+-- `input::sample_in` meets its contract. A part that lies inside the samples is read as a record, any other by `sample_at`.
 use borrow.Author.Needs.{needs}
-use lib.Ieee.{ofBits}
-use borrow.Author.Tests.{lt-ltb, le-ltb, not-true, not-false}
-use Rattle.model.specs.Env.{sampleIn}
-use native.Mathlib.Nat.{add-zero}
+use native.Mathlib.Omega.{arith}
+use Rattle.list.specs.Part.{part}
+use Rattle.input.proofs.Parts.{of-own}
 use Rattle.input.proofs.sample_in.Statement.{statement}
 use Rattle.input.proofs.sample_in.Tie as tie
 
-part-stride-requires : tie.Need-part-stride-requires
-part-stride-requires c κs = search needs
-
-in-frame-requires : tie.Need-in-frame-requires
-in-frame-requires c κs = search needs
+sample-at-requires : tie.Need-sample-at-requires
+sample-at-requires c κs = search needs
 
 returns : tie.Need-returns
-unfolding sampleIn
-returns c = let p = c .before .before .part-stride in
-    rw (not-true (c .before .before .before .before .args .voice) (c .before .if1 .taken), ← p .ensures .0) (rw add-zero at (c .in-frame .ensures))
+returns c = search needs
+
+sample-at-requires-2 : tie.Need-sample-at-requires-2
+sample-at-requires-2 c κs = search needs
 
 returns-2 : tie.Need-returns-2
-unfolding sampleIn ofBits
-returns-2 c = let p = c .before .before .part-stride in
-    let a = c .before .before .before .before .args in
-    rw (not-false (a .voice) (c .before .if1 .left), ← p .ensures .0, le-ltb (a .lane) (p .result) (c .if2 .taken))
+returns-2 c = search needs
 
-in-frame-requires-2 : tie.Need-in-frame-requires-2
-in-frame-requires-2 c κs = search needs
+add-end : tie.Need-add-end
+add-end c = search needs
+
+mul-read-signal : tie.Need-mul-read-signal
+mul-read-signal c = search needs
+
+sub-read-signal : tie.Need-sub-read-signal
+sub-read-signal c = search needs
+
+part-read-signal-start : tie.Need-part-read-signal-start
+part-read-signal-start c = search needs
+
+part-read-signal-end : tie.Need-part-read-signal-end
+part-read-signal-end c = search needs
+
+read-signal-requires : tie.Need-read-signal-requires
+read-signal-requires c κs = search needs
 
 returns-3 : tie.Need-returns-3
-unfolding sampleIn
-returns-3 c = let p = c .before .before .before .part-stride in
-    let a = c .before .before .before .before .before .args in
-    rw (not-false (a .voice) (c .before .before .if1 .left), ← p .ensures .0, lt-ltb (a .lane) (p .result) (c .before .if2 .left)) (c .in-frame2 .ensures)
+unfolding part
+returns-3 c = let a = c .before .before .before .before .before .args in
+    of-own (a .samples .now) (a .part) (omega arith) (a .frame) (a .voice) (a .lane) (c .read-signal .ensures)
 
 pub sample-in-spec : {M : Type 1} → statement M
 sample-in-spec =
     tie.close
     (tie.spec
-    part-stride-requires
-    in-frame-requires
+    sample-at-requires
     returns
+    sample-at-requires-2
     returns-2
-    in-frame-requires-2
+    add-end
+    mul-read-signal
+    sub-read-signal
+    part-read-signal-start
+    part-read-signal-end
+    read-signal-requires
     returns-3)
