@@ -4,6 +4,7 @@ Owed().line(words) answers the number, or None where the call is accepted, and t
 effect on what later numbers depend on: registries, tables, slots, programs, lengths lent. docs/CALLS.md
 decides; README.md says which calls a line stands for and which rows are judged for it, in which order.
 """
+import re
 import struct
 
 SPECIAL = [0x7F800000, 0xFF800000, 0x7FC00000, 0x80000000, 1, 0x7F7FFFFF, 0xFF7FFFFF, 0x3F800000]
@@ -55,6 +56,23 @@ def table(spec):
 def key_of(word):
     """A key's bytes."""
     return b"" if word == "~" else word.encode()
+
+
+FIXED = [b"velocity", b"key", b"channel_pressure", b"poly_pressure", b"random1", b"random2", b"alternate1", b"alternate2",
+         b"mod_wheel", b"pitch_bend", b"mpe_x", b"mpe_y", b"mpe_z", b"release_velocity", b"constant", b"voice_load", b"random_route"]
+
+
+def is_standard(key, counts):
+    """Whether a key is one of the standard sources with these counts (envelopes, LFOs, macros, sequence values)."""
+    m = re.fullmatch(rb"(env|lfo|macro|seq_value)([1-9][0-9]*)(_y)?", key)
+    if m and (m[3] is None or m[1] == b"lfo"):
+        return int(m[2]) <= counts[[b"env", b"lfo", b"macro", b"seq_value"].index(m[1])]
+    return key in FIXED or key == b"seq_index" and counts[3] > 0
+
+
+def standard_count(counts, audio):
+    e, l, m, v = counts
+    return e + 2 * l + m + v + (v > 0) + len(FIXED) + len(audio)
 
 
 def curves_of(fields):
@@ -177,6 +195,10 @@ class Owed:
             return first((9, key_of(w[1]) in self.sources), (12, len(self.sources) >= 128), (15, len(key_of(w[1])) > 32))
         if c == "find":
             return first((15, len(key_of(w[1])) > 32))
+        if c == "standard":
+            counts, keys = [int(x) for x in w[1:5]], [key_of(x) for x in w[5:]]
+            return first((9, len(set(keys)) < len(keys) or any(is_standard(k, counts) for k in keys)),
+                         (12, standard_count(counts, keys) > 128), (15, any(len(k) > 32 for k in keys)))
         if c == "dest":
             return self.row_dest(w)
         if c == "slot":
@@ -246,6 +268,12 @@ class Owed:
             self.config = (w[1], int(w[2]), int(w[3]))
         elif c == "source":
             self.sources.append(key_of(w[1]))
+        elif c == "standard":
+            e, l, m, v = [int(x) for x in w[1:5]]
+            names = FIXED + [key_of(x) for x in w[5:]] + [b"seq_index"] * (v > 0)
+            for name, n in zip((b"env%d", b"lfo%d", b"lfo%d_y", b"macro%d", b"seq_value%d"), (e, l, l, m, v)):
+                names += [name % i for i in range(1, n + 1)]
+            self.sources = names
         elif c == "dest":
             self.dests.append(w[1])
         elif c == "newreg":

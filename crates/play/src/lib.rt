@@ -1,0 +1,90 @@
+// What answers a session's lines (oracle/README.md, Session format): all that a session has said so far, and `on_line`.
+ghost use Prim.Native.Nat.{_<_};
+
+mod answering;
+
+pub use answering::Hand;
+pub use answering::begun;
+pub use answering::on_line;
+use config::Config;
+use engine::Engine;
+use preset::Preset;
+use state::Program;
+use state::Signals;
+
+// What a session has said so far, but for the memories and the programs. `at` bytes of output wait; `ended`: no line is answered any more.
+pub struct State {
+    pub at: usize,
+    pub ended: bool,
+    engine: Engine,
+    signals: Signals,
+    preset: Preset,
+}
+
+// The state after a line, and the program that has number i from now on.
+pub struct After {
+    pub state: State,
+    pub i: usize,
+    pub program: Program,
+}
+
+// The lengths of the memories that `on_line` is lent, apart from the line and the output.
+pub const BOOK: usize = 10064;
+
+pub const DESK: usize = 75010;
+
+// A session's needs beyond these are answered with TOO LARGE.
+pub const VALUES: usize = 125000;
+
+pub const AUDIO: usize = 650000;
+
+pub const POOL: usize = 732000;
+
+fn no_engine(config: Config) -> Engine {
+    let sources = source::new();
+    let dests = dest::new();
+    let mut held = [0.0f32; 1];
+    let mut globals = [0.0f32; 1];
+    let mut bases = [0.0f32; 1];
+    let made = Engine::new(sources, dests, config, &mut held, &mut globals, &mut bases);
+    made.engine
+}
+
+// some program, of which a session's programs are made before any line
+pub fn no_program() -> Program {
+    let config = start_config();
+    let compiled = program::empty(config);
+    compiled.program
+}
+
+fn start_config() -> Config {
+    let preset = preset::start();
+    preset.config
+}
+
+// the number of the program that a line names, which it has from now on where the line compiles it
+pub fn number_of(line: &[u8], book: &mut [usize]) -> usize {
+    shelf::number_of(line, book)
+}
+
+// the place of program i among a session's 9 programs, or some place
+pub fn place(i: usize) -> usize
+    ensures { λ r. ⌜ r < 9 ⌝ }
+{
+    if i < 9 { i } else { 8 }
+}
+
+// before any line; all memories are 0
+pub fn start() -> State {
+    let preset = preset::start();
+    let config = preset.config;
+    let engine = no_engine(config);
+    let signals = engine::no_signals();
+    State {
+        at: 0,
+        ended: false,
+        engine,
+        signals,
+        preset,
+    }
+}
