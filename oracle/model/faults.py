@@ -69,4 +69,5 @@ def main():
     sys.exit(not all(a or b for a, b in shown.values()))
 
 
-main()
+if __name__ == "__main__":
+    main()

@@ -48,6 +48,7 @@ struct Eng {
     nv: [Vec<f32>; 2], gt: [Vec<f32>; 2], gs: [Vec<f32>; 2], alt: bool, rng: u64, limit: usize, phase: usize, chunks: Vec<(usize, usize, usize, bool)>, p: Prog,
     bound: BTreeMap<usize, (usize, Vec<f32>)>, stat: [usize; 4],
 }
+fn fnv<'a>(r: impl Iterator<Item = &'a f32>) -> u64 { r.flat_map(|x| bits(*x).to_le_bytes()).fold(0xCBF2_9CE4_8422_2325u64, |h, b| (h ^ u64::from(b)).wrapping_mul(0x0000_0100_0000_01B3)) }
 fn stride(c: (f32, usize, usize)) -> usize { c.2.div_ceil(16).max(1) * 16 }
 fn diag() -> Vec<f32> { (0..513).map(|i| i as f32 / 512.0).collect() }
 
@@ -253,7 +254,7 @@ impl Eng {
         true
     }
 }
-struct Sess { config: (f32, usize, usize), keys: HashSet<String>, src: Vec<Source>, dests: Vec<Dest>, slots: Vec<Slot>, note: (Vec<f32>, Vec<f32>, bool, bool), tables: HashMap<String, Vec<f32>>, progs: HashMap<String, Prog>, inst: String, e: Option<Eng>, bound: BTreeMap<usize, (usize, Vec<f32>)>, out: String }
+struct Sess { config: (f32, usize, usize), keys: HashSet<String>, src: Vec<Source>, dests: Vec<Dest>, slots: Vec<Slot>, note: (Vec<f32>, Vec<f32>, bool, bool), tables: HashMap<String, Vec<f32>>, progs: HashMap<String, Prog>, inst: String, e: Option<Eng>, bound: BTreeMap<usize, (usize, Vec<f32>)>, out: String, print: String }
 fn compile(cfg: (f32, usize, usize), src: &[Source], dests: &[Dest], slots: &[Slot], note: (Vec<f32>, Vec<f32>, bool, bool)) -> Prog {
     let s = stride(cfg);
     let cand: Vec<(usize, usize)> = slots.iter().enumerate().filter_map(|(n, sl)| {
@@ -309,19 +310,60 @@ fn gen_(seed: &str, n: usize, kind: &str) -> Vec<f32> {
         match kind { "u" => u, "b" => b, "t" => (m - 8388608.0) / 524288.0, "x" | "y" => if (s >> 32) & 31 == 0 { f32::from_bits(SP[((s >> 37) & 7) as usize]) } else if kind == "x" { u } else { b }, _ => f32::from_bits((s >> 32) as u32) } }).collect()
 }
 fn data(w: &[&str]) -> Vec<f32> { if w[0] == "hex" { w[1..].iter().map(|x| fl(x)).collect() } else { gen_(w[1], w[2].parse().unwrap(), w[3]) } }
+fn table(w: &[&str]) -> Vec<f32> {
+    let u = |i: usize| -> usize { w[i].parse().unwrap() };
+    match w[0] {
+        "lin" => diag(),
+        "rev" => (0..513).map(|i| (512 - i) as f32 / 512.0).collect(),
+        "sq" => (0..513).map(|i| (i * i) as f32 / 262144.0).collect(),
+        "const" => vec![fl(w[1]); 513],
+        "step" => (0..513).map(|i| if i < u(1) { fl(w[2]) } else { fl(w[3]) }).collect(),
+        "gen" if w.len() == 3 => gen_(w[1], 513, w[2]),
+        "len" => { let mut t = table(&w[2..]); let last = t[t.len() - 1]; t.resize(u(1), last); t }
+        "put" => { let mut t = table(&w[3..]); t[u(1)] = fl(w[2]); t }
+        _ => data(w),
+    }
+}
 fn thing(s: &str) -> Option<Thing> { let (a, b) = s.split_once(':')?; let n = b.parse().unwrap(); Some(match a { "src" => Thing::Src(n), "amt" => Thing::Amt(n), _ => Thing::Out(n) }) }
 impl Sess {
     fn row(&mut self, h: String, r: &[f32]) { self.out.push_str(&h); for x in r { self.out.push_str(&format!(" {:08X}", bits(*x))); } self.out.push('\n'); }
     fn show(&mut self, a: usize, b: usize) {
-        let e = self.e.take().unwrap(); let p = &e.p; let mut shown = false; let mut un = vec![];
+        if self.print == "none" { return; }
+        let e = self.e.take().unwrap(); let p = &e.p; let mut shown = self.print == "cases"; let mut un = vec![];
         for d in 0..self.dests.len().max(p.dests.len()) {
             if p.cur.contains_key(&d) {
                 if !shown { shown = true; for (i, c) in e.chunks.iter().enumerate() { self.out.push_str(&format!("CHUNK {i} {} {} {} {}\n", c.0, c.1, c.2, u8::from(c.3))); } }
-                for i in 0..e.chunks.len() { self.row(format!("FROM {d} {i} {}", p.w[&d]), &p.rf[&d][i]); self.row(format!("TO {d} {i} {}", p.w[&d]), &p.rt[&d][i]); }
-            } else if p.aud.contains_key(&d) { for k in a..b { self.row(format!("A {d} {k} {}", p.w[&d]), &p.aud[&d][k]); } } else { un.push(d.to_string()); }
+                self.control(&e, d);
+            } else if p.aud.contains_key(&d) { self.audio(&e, d, a, b); } else { un.push(d.to_string()); }
         }
-        if !un.is_empty() { self.out.push_str(&format!("UNMOD {}\n", un.join(" "))); }
+        if !un.is_empty() && self.print != "cases" { self.out.push_str(&format!("UNMOD {}\n", un.join(" "))); }
         self.e = Some(e);
+    }
+    fn control(&mut self, e: &Eng, d: usize) {
+        let p = &e.p; let n = e.chunks.len();
+        match self.print.as_str() {
+            "hash" => self.out.push_str(&format!("HC {d} {n} {} {:016X} {:016X}\n", p.w[&d], fnv(p.rf[&d][..n].iter().flatten()), fnv(p.rt[&d][..n].iter().flatten()))),
+            "cases" => for (i, c) in e.chunks.iter().enumerate() { self.out.push_str(&format!("D {d} {} {} {} {} {:08X} {:08X}\n", c.0, c.1, c.2, u8::from(c.3), bits(p.rf[&d][i][0]), bits(p.rt[&d][i][0]))); },
+            _ => for i in 0..n { self.row(format!("FROM {d} {i} {}", p.w[&d]), &p.rf[&d][i]); self.row(format!("TO {d} {i} {}", p.w[&d]), &p.rt[&d][i]); },
+        }
+    }
+    fn audio(&mut self, e: &Eng, d: usize, a: usize, b: usize) {
+        let p = &e.p; let b = b.max(a);
+        match self.print.as_str() {
+            "hash" => self.out.push_str(&format!("HA {d} {} {} {:016X}\n", b - a, p.w[&d], fnv(p.aud[&d][a.min(p.aud[&d].len())..b.min(p.aud[&d].len())].iter().flatten()))),
+            "cases" => {}
+            _ => for k in a..b { self.row(format!("A {d} {k} {}", p.w[&d]), &p.aud[&d][k]); },
+        }
+    }
+    /// The slots that are passed over with a reason, and the first reason of each.
+    fn skipped(&mut self) {
+        if self.print == "cases" { return; }
+        for (n, s) in self.slots.iter().enumerate() {
+            let (Some(i), Some(t)) = (s.src, &s.dst) else { continue };
+            if s.byp { continue; }
+            let reason = if i >= self.src.len() { "source" } else if s.aux.is_some_and(|a| a >= self.src.len()) { "aux" } else if self.dests.iter().all(|d| d.t != *t) { "dest" } else { continue };
+            self.out.push_str(&format!("SKIP {n} {reason}\n"));
+        }
     }
     fn state(&mut self) {
         let e = self.e.take().unwrap();
@@ -342,8 +384,7 @@ impl Sess {
         for d in &p.order { self.row(format!("M from {d}"), &p.frm[d]); self.row(format!("M cur {d}"), &p.cur[d]); }
         for (name, rows) in [("slew", &p.slew), ("random", &p.rnd)] { for d in p.order.iter().chain(&p.audio) { for r in p.routes.iter().filter(|r| r.d == *d) { for q in 0..2 {
             if let Some(row) = rows.get(&(r.n, q)) { self.row(format!("M {name} {} {q}", r.n), row); } } } } }
-        for d in &p.audio { let h = p.aud[d].iter().flatten().flat_map(|x| bits(*x).to_le_bytes()).fold(0xCBF2_9CE4_8422_2325u64, |h, b| (h ^ u64::from(b)).wrapping_mul(0x0000_0100_0000_01B3));
-            self.out.push_str(&format!("M audio {d} {} {h:016X}\n", p.w[d])); }
+        for d in &p.audio { let h = fnv(p.aud[d].iter().flatten()); self.out.push_str(&format!("M audio {d} {} {h:016X}\n", p.w[d])); }
         self.e = Some(e);
     }
     fn line(&mut self, l: &str) {
@@ -354,15 +395,16 @@ impl Sess {
             "source" => { if self.keys.contains(w[1]) || self.src.len() >= 128 { return; } self.keys.insert(w[1].to_string()); self.src.push(Source { kind: w[2].into(), voice: w[3] == "v", bip: w[4] == "b" }); }
             "dest" => { let (mn, mx, f) = (fl(w[4]), fl(w[5]), thing(w[6])); if self.dests.iter().any(|d| d.t == w[1]) || !(mn < mx) { return; } if let Some(Thing::Amt(n) | Thing::Out(n)) = f { if n >= 64 { return; } }
                 self.dests.push(Dest { t: w[1].into(), voice: w[2] == "v", rate: w[3].into(), min: mn, max: mx, feed: f }); }
+            "standard" => panic!("command standard"),
             "newreg" => { self.src.clear(); self.dests.clear(); self.keys.clear(); }
-            "table" => { let t = match w[2] { "lin" => diag(), "rev" => (0..513).map(|i| (512 - i) as f32 / 512.0).collect(), "sq" => (0..513).map(|i| (i * i) as f32 / 262144.0).collect(), "const" => vec![fl(w[3]); 513], "step" => (0..513).map(|i| if i < u(3) { fl(w[4]) } else { fl(w[5]) }).collect(), "gen" => gen_(w[3], 513, w[4]), _ => data(&w[2..]) }; self.tables.insert(w[1].into(), t); }
+            "table" => { let t = table(&w[2..]); self.tables.insert(w[1].into(), t); }
             "slot" => { let n = u(1); if n > 63 { return; } let mut s = Slot::default();
                 for f in &w[2..] { let (a, v) = f.split_once('=').unwrap(); let cu = |v: &str| -> Option<Curve> { if v == "lin" { return None; } let p: Vec<&str> = v.split(':').collect(); Some(Curve { table: self.tables[p[0]].clone(), rise: fl(p[1]), fall: fl(p[2]) }) };
                     match a { "src" => s.src = v.parse().ok(), "aux" => s.aux = v.parse().ok(), "inv" => s.inv = v == "1", "byp" => s.byp = v == "1", "sc" => s.sc = cu(v), "ac" => s.ac = cu(v), "amt" => s.amt = fl(v), "out" => s.out = fl(v), "pol" => s.bip = v == "b", _ => s.dst = (v != "-").then(|| v.to_string()) } }
                 self.slots[n] = s; }
             "note" => self.note = (self.tables[w[1]].clone(), self.tables[w[2]].clone(), w[3] == "1", w[4] == "1"),
             "clear" => { self.slots = vec![Slot::default(); 64]; self.note = (diag(), diag(), false, false); }
-            "compile" => { let p = compile(self.config, &self.src, &self.dests, &self.slots, self.note.clone()); self.progs.insert(w[1].into(), p); }
+            "compile" => { self.skipped(); let p = compile(self.config, &self.src, &self.dests, &self.slots, self.note.clone()); self.progs.insert(w[1].into(), p); }
             "engine" => { let c = self.config; let s = stride(c); let n = self.src.len(); let z = || [vec![0.0; s], vec![0.0; s]];
                 let stat = self.e.as_ref().map_or([0; 4], |e| e.stat);
                 self.e = Some(Eng { config: c, src: self.src.clone(), nd: self.dests.len(), s, v: c.2, held: vec![vec![0.0; s]; n], hg: vec![0.0; n], base: vec![0.0; self.dests.len()], amt: [0.0; 64], out: [1.0; 64], active: vec![false; s], fresh: vec![false; s], ren: vec![false; s], af: false, ar: false, order: vec![], newest: None, nv: z(), gt: z(), gs: z(), alt: false, rng: 0x9E37_79B9_7F4A_7C15, limit: c.2.max(1), phase: 0, chunks: vec![], p: compile(c, &[], &[], &vec![Slot::default(); 64], (diag(), diag(), false, false)), bound: BTreeMap::new(), stat });
@@ -377,7 +419,8 @@ impl Sess {
             "process" => { let e = self.e.as_mut().unwrap(); e.bound = self.bound.clone(); if e.process(u(1), u(2)) { self.show(u(1), u(2)); } else { self.out.push_str("PANIC\n"); } }
             "state" => self.state(),
             "memory" => self.memory(),
-            "print" | "canon" | "latest" | "latest_all" | "ramp" | "is_active" | "rate" | "find" => {}
+            "print" => self.print = w[1].into(),
+            "canon" | "memory_len" | "matrix_put" | "signal_part" | "latest" | "latest_all" | "ramp" | "is_active" | "rate" | "find" => {}
             _ => { let Some(e) = self.e.as_mut() else { return };
                 match w[0] {
                     "set_held" => { let i = u(1); if i < e.src.len() { if e.src[i].voice { e.held[i].fill(fl(w[2])) } else { e.hg[i] = fl(w[2]) } } }
@@ -397,8 +440,8 @@ impl Sess {
 }
 fn main() {
     let mut t = String::new(); std::io::stdin().read_to_string(&mut t).unwrap();
-    let mut s = Sess { config: (48000.0, 64, 1), keys: HashSet::new(), src: vec![], dests: vec![], slots: vec![Slot::default(); 64], note: (diag(), diag(), false, false), tables: HashMap::from([("diag".to_string(), diag())]), progs: HashMap::new(), inst: "~".into(), e: None, bound: BTreeMap::new(), out: String::new() };
-    for l in t.lines() { s.line(l); }
+    let mut s = Sess { config: (48000.0, 64, 1), keys: HashSet::new(), src: vec![], dests: vec![], slots: vec![Slot::default(); 64], note: (diag(), diag(), false, false), tables: HashMap::from([("diag".to_string(), diag())]), progs: HashMap::new(), inst: "~".into(), e: None, bound: BTreeMap::new(), out: String::new(), print: "full".into() };
+    for (n, l) in t.lines().enumerate() { let w = l.split_whitespace().next().unwrap_or("#"); if s.print != "cases" && w != "print" && !w.starts_with('#') { s.out.push_str(&format!("@{} {w}\n", n + 1)); } s.line(l); }
     print!("{}", s.out);
     if let Some(e) = &s.e { eprintln!("STAT {} {} {}", e.stat[0], e.stat[1], e.stat[2]); }
 }

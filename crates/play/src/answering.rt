@@ -151,7 +151,7 @@ fn large(code: u8, out: &mut [u8], at: usize) -> usize {
         _ => show::put(
             out,
             at,
-            b"there are 125,000 numbers for values, 590,000 for audio rows, 730,976 for tables and samples\n",
+            b"there are 125,000 numbers for values, 666,000 for audio rows, 750,976 for tables and samples\n",
         ),
     }
 }

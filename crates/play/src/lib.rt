@@ -36,9 +36,9 @@ pub const DESK: usize = 75010;
 // A session's needs beyond these are answered with TOO LARGE.
 pub const VALUES: usize = 125000;
 
-pub const AUDIO: usize = 650000;
+pub const AUDIO: usize = 726000;
 
-pub const POOL: usize = 732000;
+pub const POOL: usize = 752000;
 
 fn no_engine(config: Config) -> Engine {
     let sources = source::new();

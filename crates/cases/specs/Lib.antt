@@ -1,0 +1,2 @@
+-- What counts as a case number.
+pub mod Numbers
