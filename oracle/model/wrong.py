@@ -246,7 +246,6 @@ WRONG = [
     ("glide-two-divisions", "B42", "a glide's step is the way / seconds / sample rate", [(STEP, "(t - self.nv[j][v]).abs() / s / self.config.0")]),
     ("glide-arrives-after", "B42", "a glide whose step reaches its target exactly goes on", [("if (t - x).abs() <= d {", "if (t - x).abs() < d {")]),
     ("glide-overshoots", "B42", "a glide passes its target", [("if (t - x).abs() <= d { self.nv[j][v] = t; self.gs[j][v] = 0.0; }", "if (t - x).abs() <= d { self.nv[j][v] = if t > x { x + d } else { x - d }; self.gs[j][v] = 0.0; }")]),
-    ("glide-active", "B42", "only active voices glide", [("for v in 0..self.v { if !(self.gs", "for v in 0..self.v { if !self.active[v] || !(self.gs")]),
     ("glide-first", "B42", "glides advance before the chunk", [(CHUNKED, CHUNKED + " self.glides(n);"), ("                self.glides(n);\n            }", "            }")]),
     ("glide-block", "B42", "glides advance once a block", [("                self.glides(n);\n            }", "                if ci + 1 == self.chunks.len() { self.glides(t - s); }\n            }")]),
     # memory and outputs
