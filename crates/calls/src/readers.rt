@@ -424,7 +424,7 @@ fn named_memory(
 ) -> usize {
     let state = e.state();
     let program = state.program;
-    report::memory(
+    kept::memory(
         program,
         state.primed,
         name,
@@ -446,7 +446,7 @@ pub fn on_memory(
     at: usize,
 ) -> Told {
     let mut cell = [0u8; 64];
-    let n = shelf::copied(book, book::get(book, INSTALLED), &mut cell);
+    let n = titles::copied(book, book::get(book, INSTALLED), &mut cell);
     let m = book::at_most(n, 64);
     failed(
         0,
@@ -472,7 +472,7 @@ pub fn on_state(
 ) -> Told {
     failed(
         0,
-        report::state(
+        kept::state(
             e.state(),
             desk,
             globals_part(desk),

@@ -1,32 +1,14 @@
-// What answers a session's lines (oracle/README.md, Session format): all that a session has said so far, and `on_line`.
+// What answers the lines of a session (oracle/README.md, Session format), and how much memory it is lent.
 ghost use Prim.Native.Nat.{_<_};
 
 mod answering;
 
-pub use answering::Hand;
-pub use answering::begun;
+use answer::Hand;
 pub use answering::on_line;
 use config::Config;
 use engine::Engine;
-use preset::Preset;
+use stage::State;
 use state::Program;
-use state::Signals;
-
-// What a session has said so far, but for the memories and the programs. `at` bytes of output wait; `ended`: no line is answered any more.
-pub struct State {
-    pub at: usize,
-    pub ended: bool,
-    engine: Engine,
-    signals: Signals,
-    preset: Preset,
-}
-
-// The state after a line, and the program that has number i from now on.
-pub struct After {
-    pub state: State,
-    pub i: usize,
-    pub program: Program,
-}
 
 // The lengths of the memories that `on_line` is lent, apart from the line and the output.
 pub const BOOK: usize = 10064;
@@ -87,4 +69,9 @@ pub fn start() -> State {
         signals,
         preset,
     }
+}
+
+// the line in hand, once what stands above its answers is printed
+pub fn begun(s: State, number: u64, line: &[u8], book: &[usize], out: &mut [u8]) -> Hand {
+    answer::begun(s.at, number, line, book, out)
 }

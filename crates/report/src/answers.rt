@@ -1,6 +1,5 @@
 // What the calls that read an engine answer. A refused call prints nothing and hands its number back.
 use crate::Told;
-use crate::rows;
 use program::RateRead;
 use state::Flag;
 use state::Ramped;
@@ -12,13 +11,13 @@ fn told(at: usize) -> Told {
 
 // a name, two numbers, and that there is no answer
 fn none(name: &[u8], dest: usize, voice: usize, out: &mut [u8], at: usize) -> usize {
-    let p = rows::two_after(out, at, name, dest, voice);
+    let p = figures::two_after(out, at, name, dest, voice);
     show::put(out, p, b" none\n")
 }
 
 fn one(dest: usize, voice: usize, x: f32, canon: bool, out: &mut [u8], at: usize) -> usize {
-    let mut p = rows::two_after(out, at, b"LATEST ", dest, voice);
-    p = rows::number(x, canon, out, p);
+    let mut p = figures::two_after(out, at, b"LATEST ", dest, voice);
+    p = figures::number(x, canon, out, p);
     show::put(out, p, b"\n")
 }
 
@@ -56,13 +55,13 @@ pub fn latest_all(
     if code != 0 {
         return Told { code, at };
     }
-    let p = rows::two_after(out, at, b"ALL ", voices, each);
-    told(rows::line(all, canon, out, p))
+    let p = figures::two_after(out, at, b"ALL ", voices, each);
+    told(figures::line(all, canon, out, p))
 }
 
 fn filled(dest: usize, voice: usize, row: &[f32], canon: bool, out: &mut [u8], at: usize) -> usize {
-    let p = rows::two_after(out, at, b"RAMP ", dest, voice);
-    rows::line(row, canon, out, p)
+    let p = figures::two_after(out, at, b"RAMP ", dest, voice);
+    figures::line(row, canon, out, p)
 }
 
 // `RAMP dest voice X..`, of the row's first numbers, or none
@@ -78,7 +77,7 @@ pub fn ramp(
     match answer {
         Ramped::Refused(code) => Told { code, at },
         Ramped::Nothing => told(none(b"RAMP ", dest, voice, out, at)),
-        Ramped::Filled(n) => told(filled(dest, voice, rows::part(row, 0, n), canon, out, at)),
+        Ramped::Filled(n) => told(filled(dest, voice, figures::part(row, 0, n), canon, out, at)),
     }
 }
 

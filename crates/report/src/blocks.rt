@@ -4,7 +4,6 @@ ghost use lib.ListN.{length};
 use crate::How;
 use crate::Print;
 use crate::Told;
-use crate::rows;
 use config::DESTINATIONS;
 use config::SLOTS;
 use engine::Engine;
@@ -58,7 +57,7 @@ fn lesser_from(best: usize, d: usize, from: usize) -> usize {
     if d < from {
         return best;
     }
-    rows::lesser(best, d)
+    figures::lesser(best, d)
 }
 
 // the least that is not below `from`, or NONE
@@ -88,7 +87,7 @@ fn has(dests: &[usize], d: usize) -> bool {
 
 fn chunk_places(n: usize, k: Chunk, out: &mut [u8], at: usize) -> usize {
     let mut p = show::whole(out, at, n as u64);
-    p = rows::three_after(out, p, b" ", k.start, k.len, k.phase);
+    p = figures::three_after(out, p, b" ", k.start, k.len, k.phase);
     show::flag_after(out, p, b" ", k.tick)
 }
 
@@ -128,8 +127,8 @@ struct Shape {
 // row k of a destination
 fn row_line(name: &[u8], xs: &[f32], s: Shape, k: usize, out: &mut [u8], at: usize) -> usize {
     let width = s.width;
-    let p = rows::three_after(out, at, name, s.dest, k, width);
-    rows::line(rows::row_of(xs, k, width), s.canon, out, p)
+    let p = figures::three_after(out, at, name, s.dest, k, width);
+    figures::line(figures::row_of(xs, k, width), s.canon, out, p)
 }
 
 fn control_full(
@@ -158,16 +157,16 @@ fn control_hash(
     out: &mut [u8],
     at: usize,
 ) -> usize {
-    let mut p = rows::three_after(out, at, b"HC ", s.dest, chunks, s.width);
-    p = rows::hashed(from, out, p);
-    p = rows::hashed(to, out, p);
+    let mut p = figures::three_after(out, at, b"HC ", s.dest, chunks, s.width);
+    p = figures::hashed(from, out, p);
+    p = figures::hashed(to, out, p);
     show::put(out, p, b"\n")
 }
 
 // the number of lane 0 after a blank
 fn lane_0(xs: &[f32], s: Shape, i: usize, out: &mut [u8], at: usize) -> usize {
-    let x = list::read(xs, rows::product(i, s.width), 0.0);
-    rows::number(x, s.canon, out, at)
+    let x = list::read(xs, figures::product(i, s.width), 0.0);
+    figures::number(x, s.canon, out, at)
 }
 
 fn case_line(
@@ -251,10 +250,10 @@ fn audio_hash(
     at: usize,
 ) -> usize {
     let width = s.width;
-    let p = rows::three_after(out, at, b"HA ", s.dest, frames, width);
-    let first = rows::product(start, width);
-    let all = rows::part(audio, first, rows::product(frames, width));
-    let q = rows::hashed(all, out, p);
+    let p = figures::three_after(out, at, b"HA ", s.dest, frames, width);
+    let first = figures::product(start, width);
+    let all = figures::part(audio, first, figures::product(frames, width));
+    let q = figures::hashed(all, out, p);
     show::put(out, q, b"\n")
 }
 
@@ -275,7 +274,7 @@ fn row_count(len: usize, width: usize) -> usize {
 }
 
 fn audio(audio: &[f32], s: Shape, span: Span, out: &mut [u8], at: usize) -> usize {
-    let stop = rows::lesser(span.end, row_count(audio.len(), s.width));
+    let stop = figures::lesser(span.end, row_count(audio.len(), s.width));
     let start = span.start;
     let print = span.print;
     match print {
@@ -361,7 +360,7 @@ fn planned(
             return p;
         }
         p = one(engine, d, d == first, values, audio, span, out, p);
-        d = least(dests, rows::sum(d, 1));
+        d = least(dests, figures::sum(d, 1));
         k += 1usize;
     }
     p
@@ -412,9 +411,9 @@ fn unmodulated(dests: &[usize], n: usize, print: Print, out: &mut [u8], at: usiz
 // the greater, at most 1,024
 fn count(a: usize, b: usize) -> usize {
     if a < b {
-        return rows::lesser(b, DESTINATIONS);
+        return figures::lesser(b, DESTINATIONS);
     }
-    rows::lesser(a, DESTINATIONS)
+    figures::lesser(a, DESTINATIONS)
 }
 
 // the destination that the chunks stand before: the first of a control plan, where chunks are printed

@@ -1,10 +1,7 @@
-// An engine's outputs, answers, state and memory as text (oracle/README.md, What is printed).
+// An engine's outputs and answers as text (oracle/README.md, What is printed).
 
 mod answers;
 mod blocks;
-mod kept;
-mod lanes;
-mod rows;
 
 pub use answers::is_active;
 pub use answers::latest;
@@ -13,8 +10,6 @@ pub use answers::ramp;
 pub use answers::rate;
 pub use answers::unwritten;
 pub use blocks::outputs;
-pub use kept::memory;
-pub use lanes::state;
 
 // How outputs are printed.
 pub enum Print {

@@ -1,5 +1,4 @@
 // Lines that make programs and engines, and that install programs.
-use crate::titles;
 use book::AUDIO;
 use book::AUDIO_PARTS;
 use book::BARE;
@@ -33,9 +32,7 @@ use preset::Preset;
 use state::Compiled;
 use state::Program;
 use state::Signals;
-
-// More programs than there are places, or longer names.
-pub const MANY_PROGRAMS: u8 = 113;
+use titles::MANY_PROGRAMS;
 
 // More numbers in values, audio or tables than there is room for.
 pub const LARGE_PROGRAM: u8 = 114;

@@ -1,5 +1,5 @@
 // A session and one line of it more: the program that the line names is taken from the session's programs, the line is answered, and the program put back.
-use play::State;
+use stage::State;
 use state::Program;
 
 // A session but for its memories: what it has said so far, and its programs.

@@ -1,10 +1,10 @@
--- `report::kept::ticks` is safe and ends. Assumes nothing.
+-- `kept::places::ticks` is safe and ends. Assumes nothing.
 use borrow.Author.Needs.{needs}
 use Prim.Native.Nat.{_≤_, _-_}
 use mathlib.Core.Path.{_≡_}
 use lib.ListN.{length}
-use Rattle.report.proofs.kept.ticks.Statement.{statement}
-use Rattle.report.proofs.kept.ticks.Tie as tie
+use Rattle.kept.proofs.places.ticks.Statement.{statement}
+use Rattle.kept.proofs.places.ticks.Tie as tie
 
 abbrev Inv-loop : tie.InvT-loop
 Inv-loop s values canon out₀ at n plan p₀ i₀ out p i = (length out ≡ length out₀) × (n ≤ 64)

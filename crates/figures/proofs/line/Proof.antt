@@ -1,10 +1,10 @@
--- `report::rows::line` is safe and ends. Assumes nothing.
+-- `figures::line` is safe and ends. Assumes nothing.
 use borrow.Author.Needs.{needs}
 use Prim.Native.Nat.{_-_}
 use mathlib.Core.Path.{_≡_}
 use lib.ListN.{length}
-use Rattle.report.proofs.rows.line.Statement.{statement}
-use Rattle.report.proofs.rows.line.Tie as tie
+use Rattle.figures.proofs.line.Statement.{statement}
+use Rattle.figures.proofs.line.Tie as tie
 
 abbrev Inv-loop : tie.InvT-loop
 Inv-loop xs canon out₀ at p₀ i₀ t7 out p i = (length out ≡ length out₀)

@@ -1,9 +1,9 @@
--- `report::rows::hash` is safe and ends. Assumes nothing.
+-- `figures::hash` is safe and ends. Assumes nothing.
 use borrow.Author.Needs.{needs}
 use Prim.Native.Nat.{_≤_, _-_}
 use lib.ListN.{length}
-use Rattle.report.proofs.rows.hash.Statement.{statement}
-use Rattle.report.proofs.rows.hash.Tie as tie
+use Rattle.figures.proofs.hash.Statement.{statement}
+use Rattle.figures.proofs.hash.Tie as tie
 
 abbrev Inv-loop : tie.InvT-loop
 Inv-loop xs h₀ i₀ h i = (i ≤ length xs)

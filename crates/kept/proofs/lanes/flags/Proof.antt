@@ -1,10 +1,10 @@
--- `report::lanes::flags` is safe and ends. Assumes nothing.
+-- `kept::lanes::flags` is safe and ends. Assumes nothing.
 use borrow.Author.Needs.{needs}
 use Prim.Native.Nat.{_≤_, _-_}
 use mathlib.Core.Path.{_≡_}
 use lib.ListN.{length}
-use Rattle.report.proofs.lanes.flags.Statement.{statement}
-use Rattle.report.proofs.lanes.flags.Tie as tie
+use Rattle.kept.proofs.lanes.flags.Statement.{statement}
+use Rattle.kept.proofs.lanes.flags.Tie as tie
 
 abbrev Inv-loop : tie.InvT-loop
 Inv-loop name n out₀ at on lanes p₀ v₀ t10 out p v = (length out ≡ length out₀) × (lanes ≤ 64)

@@ -2,7 +2,6 @@
 ghost use mathlib.Core.Path.{_≡_};
 ghost use Prim.Native.Nat.{_≤_};
 ghost use lib.ListN.{length};
-use crate::rows;
 use config::SLOTS;
 use config::SOURCES;
 use config::VOICES;
@@ -58,7 +57,7 @@ fn glide_row(glide: [Glide; VOICES], step: bool) -> [f32; VOICES]
 // a name and the first n numbers
 fn row_line(name: &[u8], xs: &[f32], n: usize, canon: bool, out: &mut [u8], at: usize) -> usize {
     let p = show::put(out, at, name);
-    rows::line(rows::part(xs, 0, n), canon, out, p)
+    figures::line(figures::part(xs, 0, n), canon, out, p)
 }
 
 // ---- the first line
@@ -90,7 +89,7 @@ fn head(state: State, out: &mut [u8], at: usize) -> usize {
     p = newest(n, out, p);
     p = show::flag_after(out, p, b" gliding 0 alternate ", state.alternate);
     p = show::put(out, p, b" rng");
-    p = rows::word(state.draw, out, p);
+    p = figures::word(state.draw, out, p);
     p = show::whole_after(out, p, b" limit ", state.limit as u64);
     any_marks(marks, out, p)
 }
@@ -159,7 +158,7 @@ fn held_line(
     at: usize,
 ) -> usize {
     let p = show::whole_after(out, at, b"S held ", source as u64);
-    rows::line(rows::row_of(held, source, stride), canon, out, p)
+    figures::line(figures::row_of(held, source, stride), canon, out, p)
 }
 
 fn held_lines(
@@ -170,7 +169,7 @@ fn held_lines(
     out: &mut [u8],
     at: usize,
 ) -> usize {
-    let n = rows::lesser(sources, SOURCES);
+    let n = figures::lesser(sources, SOURCES);
     let mut p = at;
     let mut s = 0usize;
     while s < n {

@@ -1,6 +1,5 @@
 // The installed program's own memory: the M lines. Its places are those of docs/CALLS.md, Memories.
 ghost use Prim.Native.Nat.{_≤_};
-use crate::rows;
 use config::Config;
 use config::DESTINATIONS;
 use config::FRAMES;
@@ -25,12 +24,12 @@ fn sizes_of(config: Config, plans: usize) -> Sizes {
     let frames = config.max_frames;
     let stride = config::lane_stride(config.voices);
     let chunks = config::most_chunks(frames);
-    let plan = rows::product(stride, rows::sum(rows::product(2, chunks), 6));
+    let plan = figures::product(stride, figures::sum(figures::product(2, chunks), 6));
     Sizes {
         stride,
-        frames: rows::lesser(frames, FRAMES),
+        frames: figures::lesser(frames, FRAMES),
         plan,
-        plans: rows::product(plans, plan),
+        plans: figures::product(plans, plan),
     }
 }
 
@@ -61,12 +60,12 @@ fn tick_lines(
 ) -> usize {
     let stride = s.stride;
     let w = width(stride, plan.voice);
-    let from = rows::product(i, s.plan);
+    let from = figures::product(i, s.plan);
     let mut p = show::whole_after(out, at, b"M from ", plan.dest as u64);
-    p = rows::line(rows::part(values, from, w), canon, out, p);
+    p = figures::line(figures::part(values, from, w), canon, out, p);
     p = show::whole_after(out, p, b"M cur ", plan.dest as u64);
-    rows::line(
-        rows::part(values, rows::sum(from, stride), w),
+    figures::line(
+        figures::part(values, figures::sum(from, stride), w),
         canon,
         out,
         p,
@@ -147,7 +146,7 @@ fn input_line(
     let mut p = show::either(out, at, random, b"M random ", b"M slew ");
     p = show::whole(out, p, slot as u64);
     p = show::flag_after(out, p, b" ", aux);
-    rows::line(lanes, canon, out, p)
+    figures::line(lanes, canon, out, p)
 }
 
 // of a route's numbers, those of its source
@@ -164,7 +163,7 @@ fn source_line(
     if !keeps(source, random) {
         return at;
     }
-    let lanes = rows::row_of(mem, 0, stride);
+    let lanes = figures::row_of(mem, 0, stride);
     input_line(random, route.slot, false, lanes, canon, out, at)
 }
 
@@ -182,19 +181,19 @@ fn aux_line(
     if !aux_keeps(aux, random) {
         return at;
     }
-    let lanes = rows::row_of(mem, 1, stride);
+    let lanes = figures::row_of(mem, 1, stride);
     input_line(random, route.slot, true, lanes, canon, out, at)
 }
 
 // the slews of route r, or its random inputs
 fn route_part(values: &[f32], s: Sizes, r: usize, random: bool) -> &[f32] {
     let stride = s.stride;
-    let at = rows::sum(s.plans, rows::product(r, rows::product(8, stride)));
-    let two = rows::product(2, stride);
+    let at = figures::sum(s.plans, figures::product(r, figures::product(8, stride)));
+    let two = figures::product(2, stride);
     if random {
-        return rows::part(values, rows::sum(at, two), two);
+        return figures::part(values, figures::sum(at, two), two);
     }
-    rows::part(values, at, two)
+    figures::part(values, at, two)
 }
 
 fn route_lines(
@@ -224,10 +223,10 @@ fn route_lines(
 
 fn audio_line(plan: Plan, i: usize, s: Sizes, audio: &[f32], out: &mut [u8], at: usize) -> usize {
     let w = width(s.stride, plan.voice);
-    let from = rows::product(i, rows::product(s.stride, s.frames));
-    let all = rows::part(audio, from, rows::product(w, s.frames));
-    let mut p = rows::two_after(out, at, b"M audio ", plan.dest as usize, w);
-    p = rows::hashed(all, out, p);
+    let from = figures::product(i, figures::product(s.stride, s.frames));
+    let all = figures::part(audio, from, figures::product(w, s.frames));
+    let mut p = figures::two_after(out, at, b"M audio ", plan.dest as usize, w);
+    p = figures::hashed(all, out, p);
     show::put(out, p, b"\n")
 }
 
@@ -260,7 +259,7 @@ fn audio_of(
 }
 
 fn all_audio(program: Program, s: Sizes, audio: &[f32], out: &mut [u8], at: usize) -> usize {
-    let n = rows::lesser(program.dests, DESTINATIONS);
+    let n = figures::lesser(program.dests, DESTINATIONS);
     let mut p = at;
     let mut d = 0usize;
     while d < n {

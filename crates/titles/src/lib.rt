@@ -4,6 +4,9 @@ use book::PROGRAMS;
 use book::TITLE_CELLS;
 use book::TITLES;
 
+// More programs than there are places, or longer names.
+pub const MANY_PROGRAMS: u8 = 113;
+
 // the number of the program with a name; one more than there are where there is none
 pub fn number(book: &[usize], w: &[u8]) -> usize {
     if session::is(w, b"~") {

@@ -1,16 +1,16 @@
--- `report::lanes::held_lines` is safe and ends. Assumes nothing.
+-- `kept::places::all_audio` is safe and ends. Assumes nothing.
 use borrow.Author.Needs.{needs}
 use Prim.Native.Nat.{_-_}
 use mathlib.Core.Path.{_≡_}
 use lib.ListN.{length}
-use Rattle.report.proofs.lanes.held_lines.Statement.{statement}
-use Rattle.report.proofs.lanes.held_lines.Tie as tie
+use Rattle.kept.proofs.places.all_audio.Statement.{statement}
+use Rattle.kept.proofs.places.all_audio.Tie as tie
 
 abbrev Inv-loop : tie.InvT-loop
-Inv-loop held sources stride canon out₀ at n p₀ s₀ out p s = (length out ≡ length out₀)
+Inv-loop program s audio out₀ at n p₀ d₀ out p d = (length out ≡ length out₀)
 
 abbrev μ-loop : tie.MeasureT-loop
-μ-loop held sources stride canon out₀ at n p₀ s₀ out p s = n - s
+μ-loop program s audio out₀ at n p₀ d₀ out p d = n - d
 
 lesser-requires : tie.Need-lesser-requires Inv-loop μ-loop
 lesser-requires c κs = search needs
@@ -18,11 +18,11 @@ lesser-requires c κs = search needs
 loop-holds : tie.Need-loop-holds Inv-loop μ-loop
 loop-holds c = search needs
 
-held-line-requires : tie.Need-held-line-requires Inv-loop μ-loop
-held-line-requires c κs = search needs
+audio-of-requires : tie.Need-audio-of-requires Inv-loop μ-loop
+audio-of-requires c κs = search needs
 
-add-s : tie.Need-add-s Inv-loop μ-loop
-add-s c = search needs
+add-d : tie.Need-add-d Inv-loop μ-loop
+add-d c = search needs
 
 loop-less : tie.Need-loop-less Inv-loop μ-loop
 loop-less c = search needs
@@ -36,16 +36,16 @@ same-length c = search needs
 returns : tie.Need-returns Inv-loop μ-loop
 returns c = search needs
 
-pub held-lines-spec : {M : Type 1} → statement M
-held-lines-spec =
+pub all-audio-spec : {M : Type 1} → statement M
+all-audio-spec =
     tie.close
     (tie.spec
     Inv-loop
     μ-loop
     lesser-requires
     loop-holds
-    held-line-requires
-    add-s
+    audio-of-requires
+    add-d
     loop-less
     loop-again
     same-length

@@ -1,10 +1,10 @@
--- `report::lanes::glide_row` is safe and ends. Assumes nothing.
+-- `kept::lanes::glide_row` is safe and ends. Assumes nothing.
 use borrow.Author.Needs.{needs}
 use Prim.Native.Nat.{_-_}
 use mathlib.Core.Path.{_≡_}
 use lib.ListN.{length}
-use Rattle.report.proofs.lanes.glide_row.Statement.{statement}
-use Rattle.report.proofs.lanes.glide_row.Tie as tie
+use Rattle.kept.proofs.lanes.glide_row.Statement.{statement}
+use Rattle.kept.proofs.lanes.glide_row.Tie as tie
 
 abbrev Inv-loop : tie.InvT-loop
 Inv-loop step glide out₀ v₀ out v = (length out ≡ 64)

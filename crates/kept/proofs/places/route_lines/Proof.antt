@@ -1,10 +1,10 @@
--- `report::kept::route_lines` is safe and ends. Assumes nothing.
+-- `kept::places::route_lines` is safe and ends. Assumes nothing.
 use borrow.Author.Needs.{needs}
 use Prim.Native.Nat.{_≤_, _-_}
 use mathlib.Core.Path.{_≡_}
 use lib.ListN.{length}
-use Rattle.report.proofs.kept.route_lines.Statement.{statement}
-use Rattle.report.proofs.kept.route_lines.Tie as tie
+use Rattle.kept.proofs.places.route_lines.Statement.{statement}
+use Rattle.kept.proofs.places.route_lines.Tie as tie
 
 abbrev Inv-loop : tie.InvT-loop
 Inv-loop random s values canon out₀ at n route stride p₀ r₀ out p r = (length out ≡ length out₀) × (n ≤ 64)

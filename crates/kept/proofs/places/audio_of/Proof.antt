@@ -1,10 +1,10 @@
--- `report::kept::audio_of` is safe and ends. Assumes nothing.
+-- `kept::places::audio_of` is safe and ends. Assumes nothing.
 use borrow.Author.Needs.{needs}
 use Prim.Native.Nat.{_≤_, _-_}
 use mathlib.Core.Path.{_≡_}
 use lib.ListN.{length}
-use Rattle.report.proofs.kept.audio_of.Statement.{statement}
-use Rattle.report.proofs.kept.audio_of.Tie as tie
+use Rattle.kept.proofs.places.audio_of.Statement.{statement}
+use Rattle.kept.proofs.places.audio_of.Tie as tie
 
 abbrev Inv-loop : tie.InvT-loop
 Inv-loop dest s audio out₀ at n plan i₀ out i = (length out ≡ length out₀) × (n ≤ 64)

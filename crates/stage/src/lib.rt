@@ -1,0 +1,176 @@
+// What a session has said so far, and the lines that change what programs are compiled from, the programs, and what calls are lent (oracle/README.md, Session
+// format).
+use answer::Hand;
+use book::DESTS;
+use engine::Engine;
+use preset::Changed;
+use preset::Preset;
+use shelf::Whole;
+use state::Program;
+use state::Signals;
+use state::Sources;
+
+// What a session has said so far, but for the memories and the programs. `at` bytes of output wait; `ended`: no line is answered any more.
+pub struct State {
+    pub at: usize,
+    pub ended: bool,
+    pub engine: Engine,
+    pub signals: Signals,
+    pub preset: Preset,
+}
+
+// The state after a line, and the program that has number i from now on.
+pub struct After {
+    pub state: State,
+    pub i: usize,
+    pub program: Program,
+}
+
+// ---- lines about what a program is compiled from
+
+fn changed(
+    p: Preset,
+    h: Hand,
+    line: &[u8],
+    book: &mut [usize],
+    desk: &mut [f32],
+    audio: &mut [f32],
+) -> Changed {
+    if h.c < 5 {
+        return preset::registry_line(p, h.c, line);
+    }
+    preset::matrix_line(p, h.c, line, h.n, book, audio, desk)
+}
+
+fn with_changed(s: State, h: Hand, r: Changed, book: &mut [usize], out: &mut [u8]) -> State {
+    let preset = r.preset;
+    book::set(book, DESTS, preset::dests(preset));
+    let mut next = s;
+    next.preset = preset;
+    next.at = answer::put_changed(h, r.code, r.a, r.b, book, out);
+    next.ended = 15 < r.code;
+    next
+}
+
+// Lines about what a program is compiled from
+pub fn on_preset(
+    s: State,
+    h: Hand,
+    line: &[u8],
+    out: &mut [u8],
+    book: &mut [usize],
+    desk: &mut [f32],
+    audio: &mut [f32],
+) -> State {
+    let before = s.preset;
+    let r = changed(before, h, line, book, desk, audio);
+    with_changed(s, h, r, book, out)
+}
+
+fn with_sources(s: State, sources: Sources, h: Hand, book: &[usize], out: &mut [u8]) -> State {
+    let mut preset = s.preset;
+    preset.sources = sources;
+    let mut next = s;
+    next.preset = preset;
+    next.at = h.at;
+    if answer::is_quiet(book) {
+        return next;
+    }
+    next.at = roster::put(sources, out, h.at);
+    next
+}
+
+// The standard sources in place of those registered
+pub fn on_standard(s: State, h: Hand, line: &[u8], out: &mut [u8], book: &[usize]) -> State {
+    let made = roster::made(line);
+    let code = made.code;
+    if code != 0 {
+        let mut next = s;
+        next.at = answer::coded(code, h.number, out, h.at);
+        next.ended = 15 < code;
+        return next;
+    }
+    let sources = made.sources;
+    with_sources(s, sources, h, book, out)
+}
+
+// ---- lines about programs and the engine as a whole
+
+fn put_whole(r: Whole, h: Hand, book: &[usize], out: &mut [u8]) -> usize {
+    if r.code != 0 {
+        return answer::coded(r.code, h.number, out, r.at);
+    }
+    if answer::is_quiet(book) {
+        return r.at;
+    }
+    shelf::put(r, h.c, book, out)
+}
+
+fn with_whole(s: State, r: Whole, h: Hand, book: &[usize], out: &mut [u8]) -> After {
+    let engine = r.engine;
+    let signals = r.signals;
+    let program = r.program;
+    let mut state = s;
+    state.engine = engine;
+    state.signals = signals;
+    state.at = put_whole(r, h, book, out);
+    state.ended = 15 < r.code;
+    After {
+        state,
+        i: r.i,
+        program,
+    }
+}
+
+fn whole_of(s: State, p: Program, i: usize, at: usize) -> Whole {
+    let engine = s.engine;
+    let signals = s.signals;
+    Whole {
+        at,
+        code: 0,
+        i,
+        engine,
+        signals,
+        program: p,
+    }
+}
+
+// Lines about program i, p, and about the engine as a whole
+pub fn on_whole(
+    s: State,
+    p: Program,
+    i: usize,
+    h: Hand,
+    out: &mut [u8],
+    book: &mut [usize],
+    desk: &mut [f32],
+    values: &mut [f32],
+    audio: &mut [f32],
+    pool: &mut [f32],
+) -> After {
+    let preset = s.preset;
+    let t = whole_of(s, p, i, h.at);
+    let r = shelf::whole_line(t, preset, h.c, i, book, desk, values, audio, pool);
+    with_whole(s, r, h, book, out)
+}
+
+// ---- lines about what calls are lent
+
+// Lines about what calls are lent
+pub fn on_lending(
+    s: State,
+    h: Hand,
+    line: &[u8],
+    out: &mut [u8],
+    book: &mut [usize],
+    pool: &mut [f32],
+) -> State {
+    let before = s.signals;
+    let b = lending::lending_line(before, h.c, line, h.n, book, pool);
+    let signals = b.signals;
+    let mut next = s;
+    next.signals = signals;
+    next.at = answer::told(b.code, h.number, out, h.at);
+    next.ended = 15 < b.code;
+    next
+}
