@@ -1,5 +1,5 @@
--- Frames whose rows lie in a part of the audio: that part is lent, and put back. Assumes nothing.
-use mathlib.Core.Path.{_≡_, refl, sym, ap, _∙_}
+-- Frames and swept rows that lie in a part of the audio: that part is lent, and put back. Assumes nothing.
+use mathlib.Core.Path.{_≡_, refl, sym, ap, ap₂, _∙_}
 use mathlib.Core.Bool.{Bool, true, false, cond, _&&_}
 use mathlib.Core.List.{List}
 use Prim.Native.Nat.{ℕ, zero, suc, _+_, _-_, _*_, _≤_, _<_}
@@ -8,6 +8,7 @@ use native.Mathlib.Omega.{arith}
 use lib.Dec.{eqb}
 use lib.ListN.{length, set}
 use lib.Ieee.{Float, nan}
+use Rattle.config.specs.Sizes.{lanes}
 use Rattle.list.specs.Part.{part, onPart}
 use Rattle.list.proofs.Parts.{Room, part-length, onPart-inside, onPart-self, onPart-set}
 use Rattle.list.proofs.Rows.{row-inside}
@@ -23,6 +24,8 @@ use Rattle.model.specs.Sums.{audioSum}
 use Rattle.model.specs.Tick.{widthOf, fillFrom, lanesFrom, rowsOf, ownOf}
 use Rattle.model.proofs.FillFrom.{fill-length, fill-same}
 use Rattle.input.proofs.Numbers.{product-bound}
+use Rattle.sweep.specs.declared.Pass.{Pass}
+use Rattle.sweep.specs.Sweep.{swept, sweptAt, sweptRow, sweptRows}
 use Rattle.sound.specs.Rows.{sounds, widthAt, rowFrame, rowFrames}
 
 -- ---- where the part lies
@@ -106,3 +109,28 @@ frames-part st t c d a e (suc n) v m w p q b =
     ap (λ (z : ℕ). withPart m a e (rowFrame st (at-n t c n) d z done)) (zero-add k)
     ∙ sym (frame-part st (at-n t c n) d m a e k done room (omega arith))
     ∙ ap (rowFrame st (at-n t c n) d (a + k)) (frames-part st t c d a e n v m w p q (omega arith))
+
+-- ---- the rows of a chunk, swept
+
+module _ (s p : List ℕ) (g xs : List Float) (q : Pass) where
+  swept-long : (a k n : ℕ) (m : List Float) → length (sweptRows s p g xs q a k n m) ≡ length m
+  unfolding sweptRows sweptRow
+  swept-long a k zero m = refl
+  swept-long a k (suc n) m = simp (fill-length, swept-long a k n m)
+
+  -- THE PART: the same
+  pub swept-part : (a e k n : ℕ) (m : List Float) → q .from + q .groups * lanes ≤ q .width → a ≤ e → e ≤ length m → n * q .width ≤ e - a
+      → onPart m a e (sweptRows s p g xs q 0 k n (part m a e)) ≡ sweptRows s p g xs q a k n m
+  unfolding sweptRows sweptRow
+  swept-part a e k zero m w h t b = onPart-self m a e
+  swept-part a e k (suc n) m w h t b =
+      let i : ℕ = n * q .width in
+      let done : List Float = sweptRows s p g xs q 0 k n (part m a e) in
+      let new : ℕ → Float = λ l. sweptAt s p g xs q (k + n) (q .from + l) in
+      let step : n < suc n = omega arith in
+      let more : i + q .width ≤ e - a = omega (arith, row-inside (q .width) step) in
+      let place : a + (i + q .from) ≡ a + i + q .from = omega arith in
+      let room : Room m a e done = record { start = h; end = t; as-long = swept-long 0 k n (part m a e) ∙ part-length m a e t } in
+      ap (λ (z : ℕ). onPart m a e (fillFrom done (z + q .from) new (q .groups * lanes))) (zero-add i)
+      ∙ sym (fill-part m done a e (i + q .from) new (q .groups * lanes) room (omega arith))
+      ∙ ap₂ (λ (z : List Float) (j : ℕ). fillFrom z j new (q .groups * lanes)) (swept-part a e k n m w h t (omega arith)) place

@@ -2,6 +2,7 @@
 // definitions are in model's specs/Audio. A contract holds of every state that has what the function is handed: specs/Rows and specs/Work say what that is.
 ghost use mathlib.Core.Path.{_≡_};
 ghost use mathlib.Core.Bool.{true, false, not, cond, _&&_, _||_};
+ghost use mathlib.Core.List.{List};
 ghost use Prim.Native.Nat.{ℕ, _+_, _*_, _≤_, _<_};
 ghost use lib.Dec.{eqb};
 ghost use lib.ListN.{length, getD};
@@ -10,7 +11,7 @@ ghost use Rattle.config.specs.Sizes.{slots, mostVoices};
 ghost use Rattle.number.specs.Number.{hold};
 ghost use Rattle.filled.specs.Filled.{noPlan};
 ghost use Rattle.state.specs.declared.State.{State};
-ghost use Rattle.model.specs.Audio.{wholePlain, newAudio, audioFrames, audioOf};
+ghost use Rattle.model.specs.Audio.{Sounds, wholePlain, newAudio, audioFrames, audioPlans, audioOf};
 ghost use Rattle.model.specs.Counts.{at};
 ghost use Rattle.model.specs.Env.{Env, Rows, Own};
 ghost use Rattle.model.specs.Lanes.{inSpan};
@@ -18,17 +19,23 @@ ghost use Rattle.model.specs.Layout.{audioRow};
 ghost use Rattle.model.specs.Mix.{Mix};
 ghost use Rattle.model.specs.Tick.{lanesFrom};
 ghost use Rattle.slewing.specs.Rows.{IsRow};
-ghost use Rattle.sum.specs.Job.{Bounded, laneCount, IsScene, IsJob, Sums};
+ghost use Rattle.sum.specs.Job.{Bounded, laneCount, baseBy, IsScene, IsJob, Sums};
+ghost use Rattle.sweep.specs.Sweep.{sweptRows, Within};
 ghost use Rattle.sound.specs.Rows.{sounds, sceneAt, jobAt, jobEnv, Of, rowFrame, rowFrames};
 ghost use Rattle.sound.specs.Work.{Sized, audioRoom, Installed, jobOf, workEnv};
+ghost use Rattle.sound.specs.Passes.{passOf, Ready, Prepared, ReadyBy, PreparedBy};
 use config::SLOTS;
 use config::VOICES;
 use input::Scene;
 use state::Chunk;
+use state::Gains;
 use state::Plan;
 use state::Route;
 use state::Signals;
 use sum::Job;
+use sweep::Field;
+use sweep::Leads;
+use sweep::Pass;
 
 // ---- one row
 
@@ -361,6 +368,216 @@ pub fn plan_frames(
     );
 }
 
+// ---- plans that are swept
+
+// what the rows of a plan are swept by
+fn pass_of(
+    field: Field,
+    plan: Plan,
+    levels: Gains,
+    globals: &[f32],
+    bases: &[f32],
+    offsets: &[f32],
+) -> Pass
+    requires { ⌜ plan .first + plan .count ≤ length (now offsets) ⌝ }
+    ensures { λ r. ⌜ r ≡ passOf field plan (baseBy levels (now (globals .entry)) (now (bases .entry)) (plan .dest) (plan .base)) (now (offsets .entry)) ⌝ }
+{
+    let kind = plan.base;
+    let base = sum::base_by(kind, plan.dest, levels, globals, bases);
+    let offset = sweep::offset_sum(offsets, plan.first, plan.count);
+    let bound = bounded(plan.min, plan.max);
+    Pass {
+        begun: base + offset,
+        bound,
+        min: plan.min,
+        max: plan.max,
+        first: plan.first,
+        count: plan.count,
+        from: field.from,
+        groups: field.groups,
+        width: field.stride,
+    }
+}
+
+// The rows of a plan in a chunk, which are a part of the audio that starts at a.
+pub fn sweep_plan(
+    audio: &mut [f32],
+    pass: Pass,
+    a: usize,
+    chunk: Chunk,
+    starts: &[usize],
+    steps: &[usize],
+    gains: &[f32],
+    samples: &[f32],
+)
+    requires { ⌜ Within (now starts) (now steps) (now gains) (now samples) pass (chunk .start + chunk .len) × (a + chunk .len * pass .width ≤ length (now audio)) ⌝ }
+    ensures { λ _. ⌜ now (audio .exit) ≡ sweptRows (now (starts .entry)) (now (steps .entry)) (now (gains .entry)) (now (samples .entry)) pass a (chunk .start) (chunk .len) (now (audio .entry)) ⌝ }
+{
+    let e = a + row_at(pass.width, chunk.len);
+    sweep::rows(
+        &mut audio[a..e],
+        pass,
+        starts,
+        steps,
+        gains,
+        samples,
+        chunk.start,
+        chunk.len,
+    );
+}
+
+// The rows of the plans that have audio, from plan `from` of these on, up to the first that is not swept: which that is, or their count.
+pub fn sweep_plans(
+    audio: &mut [f32],
+    field: Field,
+    plans: [Plan; SLOTS],
+    control: usize,
+    from: usize,
+    count: usize,
+    chunk: Chunk,
+    levels: Gains,
+    globals: &[f32],
+    bases: &[f32],
+    starts: &[usize],
+    steps: &[usize],
+    gains: &[f32],
+    offsets: &[f32],
+    samples: &[f32],
+) -> usize
+    requires { ⌜ Ready field chunk (control + count) (length (now audio)) (now samples) (now starts) (now steps) (now gains) (now offsets) × (from ≤ count) ⌝ }
+    ensures { λ r. ⌜ (from ≤ r) × (r ≤ count) × ((st : State) (w : Work) (h b v : List Float) (m : Sounds) → Installed st w → Prepared w chunk field plans control levels (now (samples .entry)) (now (starts .entry)) (now (steps .entry)) (now (gains .entry)) (now (offsets .entry)) → sounds v (now (audio .entry)) ≡ audioPlans st (workEnv w h (now (globals .entry)) (now (bases .entry)) b (now (samples .entry))) chunk from m → sounds v (now (audio .exit)) ≡ audioPlans st (workEnv w h (now (globals .entry)) (now (bases .entry)) b (now (samples .entry))) chunk r m) ⌝ }
+{
+    let mut k = from;
+    while k < count {
+        let d = control + k;
+        let plan = plans[d];
+        if !sweep::is_swept(field, plan, steps) {
+            return k;
+        }
+        let pass = pass_of(field, plan, levels, globals, bases, offsets);
+        let a = audio_at(field.stride, field.frames, d, field.stride, chunk.start);
+        sweep_plan(audio, pass, a, chunk, starts, steps, gains, samples);
+        k += 1;
+    }
+    k
+}
+
+// What the plans of a chunk that have audio are swept by, besides the lent numbers: the field, the plans, of which the first `control` have no audio and `count` have,
+// the gains as set, and what each route is swept by.
+pub struct Sweeping {
+    pub field: Field,
+    pub plan: [Plan; SLOTS],
+    pub control: usize,
+    pub count: usize,
+    pub levels: Gains,
+    pub leads: Leads,
+}
+
+// that of the work
+fn sweeping_of(work: Work, chunk: Chunk, samples: &[f32]) -> Sweeping
+    requires { ⌜ Sized work chunk ⌝ }
+    ensures { λ r. ⌜ PreparedBy work chunk r (now (samples .entry)) × ((n : ℕ) → audioRoom work ≤ n → ReadyBy chunk n r (now (samples .entry))) ⌝ }
+{
+    let plan = work.plan;
+    let routes = work.routes;
+    let signals = work.signals;
+    let scene = work.scene;
+    let voices = scene.voices;
+    let active = voices.active;
+    let levels = scene.gains;
+    let up_to = chunk.start + chunk.len;
+    let field = sweep::field_of(active, scene.stride, work.frames);
+    let leads = sweep::leads_of(routes, signals, levels, scene.stride, up_to, samples);
+    Sweeping {
+        field,
+        plan,
+        control: work.control,
+        count: work.plans - work.control,
+        levels,
+        leads,
+    }
+}
+
+// the plans from `from` on up to the first that is not swept
+fn sweep_from(
+    audio: &mut [f32],
+    sweeping: Sweeping,
+    chunk: Chunk,
+    from: usize,
+    globals: &[f32],
+    bases: &[f32],
+    samples: &[f32],
+) -> usize
+    requires { ⌜ ReadyBy chunk (length (now audio)) sweeping (now samples) × (from ≤ sweeping .count) ⌝ }
+    ensures { λ r. ⌜ (from ≤ r) × (r ≤ sweeping .count) × ((st : State) (w : Work) (h b v : List Float) (m : Sounds) → Installed st w → PreparedBy w chunk sweeping (now (samples .entry)) → sounds v (now (audio .entry)) ≡ audioPlans st (workEnv w h (now (globals .entry)) (now (bases .entry)) b (now (samples .entry))) chunk from m → sounds v (now (audio .exit)) ≡ audioPlans st (workEnv w h (now (globals .entry)) (now (bases .entry)) b (now (samples .entry))) chunk r m) ⌝ }
+{
+    let plans = sweeping.plan;
+    let levels = sweeping.levels;
+    let leads = sweeping.leads;
+    let starts = leads.starts;
+    let steps = leads.steps;
+    let gains = leads.gains;
+    let offsets = leads.offsets;
+    sweep_plans(
+        audio,
+        sweeping.field,
+        plans,
+        sweeping.control,
+        from,
+        sweeping.count,
+        chunk,
+        levels,
+        globals,
+        bases,
+        &starts,
+        &steps,
+        &gains,
+        &offsets,
+        samples,
+    )
+}
+
+// The rows of the plans that have audio, and their slews: those that are swept together, then the one that is not.
+fn plans_from(
+    values: &mut [f32],
+    audio: &mut [f32],
+    work: Work,
+    sweeping: Sweeping,
+    chunk: Chunk,
+    held: &[f32],
+    globals: &[f32],
+    bases: &[f32],
+    tables: &[f32],
+    samples: &[f32],
+)
+    requires { ⌜ Sized work chunk × (audioRoom work ≤ length (now audio)) × ReadyBy chunk (length (now audio)) sweeping (now samples) × PreparedBy work chunk sweeping (now samples) ⌝ }
+    ensures { λ _. ⌜ ((st : State) → Installed st work → sounds (now (values .exit)) (now (audio .exit)) ≡ audioOf st (workEnv work (now (held .entry)) (now (globals .entry)) (now (bases .entry)) (now (tables .entry)) (now (samples .entry))) chunk (sounds (now (values .entry)) (now (audio .entry)))) ⌝ }
+{
+    let control = work.control;
+    let count = sweeping.count;
+    let mut k = 0usize;
+    while k < count {
+        let m = sweep_from(audio, sweeping, chunk, k, globals, bases, samples);
+        if count <= m {
+            return;
+        }
+        let d = control + m;
+        plan_frames(
+            values,
+            audio,
+            work,
+            chunk,
+            d,
+            held,
+            globals,
+            bases,
+            tables,
+            samples,
+        );
+        k = m + 1;
+    }
+}
+
 // The audio of a chunk: the rows of the plans that have audio, and their slews.
 pub fn audio_plans(
     values: &mut [f32],
@@ -376,22 +593,20 @@ pub fn audio_plans(
     requires { ⌜ Sized work chunk × (audioRoom work ≤ length (now audio)) ⌝ }
     ensures { λ _. ⌜ ((st : State) → Installed st work → sounds (now (values .exit)) (now (audio .exit)) ≡ audioOf st (workEnv work (now (held .entry)) (now (globals .entry)) (now (bases .entry)) (now (tables .entry)) (now (samples .entry))) chunk (sounds (now (values .entry)) (now (audio .entry)))) ⌝ }
 {
-    let count = work.plans - work.control;
-    let mut k = 0usize;
-    while k < count {
-        let d = work.control + k;
-        plan_frames(
-            values,
-            audio,
-            work,
-            chunk,
-            d,
-            held,
-            globals,
-            bases,
-            tables,
-            samples,
-        );
-        k += 1;
+    if work.plans <= work.control {
+        return;
     }
+    let sweeping = sweeping_of(work, chunk, samples);
+    plans_from(
+        values,
+        audio,
+        work,
+        sweeping,
+        chunk,
+        held,
+        globals,
+        bases,
+        tables,
+        samples,
+    );
 }

@@ -232,8 +232,8 @@ fn route_aux_key(route: Route) -> usize
     aux_key(aux)
 }
 
-// where its part stands; 0 where there is none
-fn part_index(key: usize) -> usize
+// Where the part of a source stands; 0 where there is none.
+pub fn part_index(key: usize) -> usize
     ensures { λ r. ⌜ (r < mostSources) × (key < mostSources → r ≡ key) ⌝ }
 {
     if key < SOURCES {
@@ -344,8 +344,8 @@ fn slot_gain(gains: Gains, slot: u8) -> f32
     gain_at(amount, slot) * gain_at(output, slot)
 }
 
-// the base of a destination, of what there is to read
-fn base_by(base: Base, dest: u16, gains: Gains, globals: &[f32], bases: &[f32]) -> f32
+// The base of a destination, of what there is to read.
+pub fn base_by(base: Base, dest: u16, gains: Gains, globals: &[f32], bases: &[f32]) -> f32
     ensures { λ r. ⌜ r ≡ baseBy gains (now (globals .entry)) (now (bases .entry)) dest base ⌝ }
 {
     let amount = gains.amount;
@@ -453,8 +453,8 @@ pub fn all_plain(job: Job) -> bool
 
 // ---- the active span
 
-// the first lane of the first group with an active voice
-fn span_first(active: [bool; VOICES]) -> usize
+// The first lane of the first group with an active voice.
+pub fn span_first(active: [bool; VOICES]) -> usize
     ensures { λ r. ⌜ ((l : ℕ) → l < 64 → leb r l ≡ anyFrom active 0 (groupOf l + lanes)) ⌝ }
 {
     if input::any_from(active, 0, 16) {
@@ -482,8 +482,8 @@ fn rest(n: usize, k: usize) -> usize
     n - k
 }
 
-// where the last group with an active voice ends
-fn span_end(active: [bool; VOICES], stride: usize) -> usize
+// Where the last group with an active voice ends.
+pub fn span_end(active: [bool; VOICES], stride: usize) -> usize
     ensures { λ r. ⌜ ((l : ℕ) → l < 64 → ltb l r ≡ anyFrom active (groupOf l) (stride - groupOf l)) ⌝ }
 {
     if input::any_from(active, 48, rest(stride, 48)) {
@@ -501,8 +501,8 @@ fn span_end(active: [bool; VOICES], stride: usize) -> usize
     0
 }
 
-// a span that starts before it ends, within the stride
-fn span_within(first: usize, end: usize, stride: usize) -> Span
+// A span that starts before it ends, within the stride.
+pub fn span_within(first: usize, end: usize, stride: usize) -> Span
     ensures { λ r. ⌜ (r .first ≤ r .end) × (r .end ≤ stride) × ((l : ℕ) → l < stride → (leb (r .first) l && ltb l (r .end)) ≡ (leb first l && ltb l end)) ⌝ }
 {
     if stride < end {
