@@ -34,14 +34,6 @@ fn on_config(p: Preset, line: &[u8]) -> Changed {
     configured(p, config)
 }
 
-// a key as written: `~` is the empty one
-fn key_of(w: &[u8]) -> &[u8] {
-    if session::is(w, b"~") {
-        return &w[..0];
-    }
-    w
-}
-
 fn source_set(p: Preset, added: SourceAdded) -> Changed {
     let code = added.code;
     if code != 0 {
@@ -63,7 +55,7 @@ fn on_source(p: Preset, line: &[u8]) -> Changed {
     let scope = w.scope;
     let range = w.range;
     let sources = p.sources;
-    let added = source::add(sources, key_of(session::word(line, 1)), kind, scope, range);
+    let added = source::add(sources, words::key(session::word(line, 1)), kind, scope, range);
     source_set(p, added)
 }
 
@@ -113,7 +105,7 @@ fn found(p: Preset, answer: SourceFound) -> Changed {
 // `find KEY`
 fn on_find(p: Preset, line: &[u8]) -> Changed {
     let sources = p.sources;
-    let answer = source::find(sources, key_of(session::word(line, 1)));
+    let answer = source::find(sources, words::key(session::word(line, 1)));
     found(p, answer)
 }
 

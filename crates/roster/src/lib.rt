@@ -37,14 +37,6 @@ fn copy(bytes: &mut [u8], at: usize, key: &[u8])
     }
 }
 
-// a key as written: `~` is the empty one
-fn key_of(w: &[u8]) -> &[u8] {
-    if session::is(w, b"~") {
-        return &w[..0];
-    }
-    w
-}
-
 // a key behind the first `at` bytes: where it ends, or FULL
 fn put_key(bytes: &mut [u8], at: usize, key: &[u8]) -> usize {
     if bytes.len() < at {
@@ -69,7 +61,7 @@ fn put_keys(line: &[u8], n: usize, bytes: &mut [u8], lengths: &mut [usize]) -> u
     let mut p = session::place(line, 5);
     let mut k = 0usize;
     while k < n {
-        let key = key_of(session::word_at(line, p));
+        let key = words::key(session::word_at(line, p));
         at = put_key(bytes, at, key);
         put_length(lengths, k, key.len());
         p = session::next(line, p);

@@ -174,6 +174,14 @@ fn range_of(i: usize) -> Range {
     Range::Bipolar
 }
 
+// a key as written: `~` is the empty one
+pub fn key(w: &[u8]) -> &[u8] {
+    if session::is(w, b"~") {
+        return &w[..0];
+    }
+    w
+}
+
 // `source KEY KIND SCOPE RANGE`
 pub fn source(line: &[u8]) -> SourceWord {
     let k = index_at(

@@ -21,8 +21,8 @@ loop-holds c = search needs
 word-at-requires : tie.Need-word-at-requires Inv-loop μ-loop
 word-at-requires c κs = search needs
 
-key-of-requires : tie.Need-key-of-requires Inv-loop μ-loop
-key-of-requires c κs = search needs
+key-requires : tie.Need-key-requires Inv-loop μ-loop
+key-requires c κs = search needs
 
 put-key-requires : tie.Need-put-key-requires Inv-loop μ-loop
 put-key-requires c κs = search needs
@@ -60,7 +60,7 @@ put-keys-spec =
     place-requires
     loop-holds
     word-at-requires
-    key-of-requires
+    key-requires
     put-key-requires
     put-length-requires
     next-requires
