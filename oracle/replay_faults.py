@@ -1,9 +1,10 @@
 #!/usr/bin/env python3
-"""replay_faults.py [--only NAME,NAME] [--choose PROGRAM N LAST] [--folder FOLDER] [--jobs N] [--markdown]
+"""replay_faults.py [--only NAME,NAME] [--choose PROGRAM N LAST] [--folder FOLDER] [--jobs N] [--markdown] [--cover]
 
 Which sessions of the lists that `replay` replays (crates/replay/data) tell a wrong engine from the right one. Each fault of model/wrong.py
 and model/faults.py is put into a copy of the order-free model, in a temporary folder; the copy is given every session of the lists, without
-its refused calls, and what it prints for `process`, `out`, `state` and `memory` lines, and the SKIP lines of `compile`, is held to the list.
+its refused calls, and what it prints for `config`, `process`, `out`, the readers of outputs, `rate`, `is_active`, `state` and `memory`, and the SKIP
+lines of `compile`, is held to the list.
 A fault in judging is put into a copy of owed.py, and the numbers that it works out are held to the list's. For each fault: where the
 sentence stands that it gets wrong (model/wrong.py), how many sessions catch it, by outputs alone and by anything, and the first of them.
 Exit 1 if some fault is caught by none, or if the right model differs from the list.
@@ -14,6 +15,7 @@ A session with a line that the model does not have (`standard`) is left out, and
             an r), small sessions first, such that every fault is caught by N sessions, if it can be. For replay.py's SEEDS. PROGRAM is replay.py's.
 --folder    builds the wrong copies there and keeps them
 --markdown  prints the table as README.md has it
+--cover     plays nothing: holds the names in model/COVER.md to the faults, each of which must be there
 """
 import argparse
 import concurrent.futures
@@ -35,8 +37,8 @@ JUDGED = wrong.JUDGED
 MODEL = os.path.join(compare.HERE, "model/model.rs")
 OWED = os.path.join(compare.HERE, "owed.py")
 LISTS = ("cases", "rows", "random")
-OUTPUTS = ("process", "out")
-WORDS = OUTPUTS + ("state", "memory", "compile")
+OUTPUTS = ("process", "out", "latest", "latest_all", "ramp", "is_active", "rate")
+WORDS = OUTPUTS + ("config", "state", "memory", "compile")
 
 
 def bits(match):
@@ -229,6 +231,16 @@ def choose(folder, pool, names, program, wanted, last):
     print("below %d: %s" % (wanted, " ".join("%s:%d" % (n, count[n]) for n in names if count[n] < wanted)))
 
 
+def cover():
+    """Prints the names that model/COVER.md has and that are no faults, and the faults that it does not have; answers how many."""
+    rows = [l for l in open(os.path.join(compare.HERE, "model/COVER.md")).read().split("\n") if l.startswith("| ")]
+    there, named = {n for l in rows for n in re.findall(r"`([\w-]+)`", l.split("|")[-2])}, {f[0] for f in FAULTS + JUDGED}
+    for name in sorted(there ^ named):
+        print("%s is %s" % (name, "no fault" if name in there else "not in the table"))
+    print("%d faults, %d rows" % (len(named), sum("---" not in l for l in rows)))
+    return len(there ^ named)
+
+
 def main():
     a = argparse.ArgumentParser(usage=__doc__)
     a.add_argument("--only")
@@ -236,7 +248,10 @@ def main():
     a.add_argument("--folder")
     a.add_argument("--jobs", type=int, default=os.cpu_count())
     a.add_argument("--markdown", action="store_true")
+    a.add_argument("--cover", action="store_true")
     o = a.parse_args()
+    if o.cover:
+        sys.exit(cover() > 0)
     names = [f[0] for f in FAULTS + JUDGED if not o.only or f[0] in o.only.split(",")]
     with tempfile.TemporaryDirectory() as own, concurrent.futures.ThreadPoolExecutor(o.jobs) as pool:
         folder = o.folder or own

@@ -170,6 +170,18 @@ impl Eng {
         self.active[v] = false; self.fresh[v] = false; self.ren[v] = false; self.gs[0][v] = 0.0; self.gs[1][v] = 0.0;
         if self.newest == Some(v) { self.newest = self.order.iter().rev().copied().find(|x| self.active[*x]); }
     }
+    fn active(&self, v: usize) -> bool { v < self.v && self.active[v] }
+    /// The latest value of d for a voice: the last chunk's, or the last frame's.
+    fn latest(&self, d: usize, v: usize) -> Option<f32> {
+        let c = self.chunks.last()?; let at = if self.p.w.get(&d) == Some(&1) { 0 } else { v };
+        if let Some(r) = self.p.rt.get(&d) { return Some(r[self.chunks.len() - 1][at]); }
+        self.p.aud.get(&d).map(|r| r[c.0 + c.1 - 1][at])
+    }
+    /// The control values of d for a voice, frame by frame.
+    fn ramp(&self, d: usize, v: usize) -> Option<Vec<f32>> {
+        let (f, t) = (self.p.rf.get(&d)?, self.p.rt.get(&d)?); let at = if self.p.w[&d] == 1 { 0 } else { v };
+        Some(self.chunks.iter().enumerate().flat_map(|(i, c)| { let (a, b) = (f[i][at], t[i][at]); let step = (b - a) / 32.0; (0..c.1).map(move |j| a + step * (c.2 + j) as f32) }).collect())
+    }
     fn tick(&mut self, k: usize, phase: usize, first: bool) {
         let off = phase != 0; let snapping = first && self.af;
         let kept = |e: &Eng, d: usize, l: usize| off && e.p.primed && !(e.p.dests[d].voice && snapping && e.fresh[l]);
@@ -387,11 +399,26 @@ impl Sess {
         for d in &p.audio { let h = fnv(p.aud[d].iter().flatten()); self.out.push_str(&format!("M audio {d} {} {h:016X}\n", p.w[d])); }
         self.e = Some(e);
     }
+    /// The lines that read without processing.
+    fn reader(&mut self, w: &[&str]) {
+        let Some(e) = self.e.take() else { return };
+        let u = |i: usize| -> usize { w[i].parse().unwrap() };
+        let head = w[1..].join(" ");
+        match w[0] {
+            "is_active" => self.out.push_str(&format!("ACTIVE {head} {}\n", u8::from(e.active(u(1))))),
+            "rate" => self.out.push_str(&format!("RATE {head} {}\n", if e.p.cur.contains_key(&u(1)) { "control" } else if e.p.aud.contains_key(&u(1)) { "audio" } else { "none" })),
+            "latest" => match e.latest(u(1), u(2)) { Some(x) => self.row(format!("LATEST {head}"), &[x]), None => self.out.push_str(&format!("LATEST {head} none\n")) },
+            "ramp" => match e.ramp(u(1), u(2)) { Some(r) => self.row(format!("RAMP {head}"), &r), None => self.out.push_str(&format!("RAMP {head} none\n")) },
+            _ => { let all: Vec<f32> = (0..u(1) * u(2)).map(|i| { let (d, v) = (i / u(1), i % u(1)); if d >= e.p.dests.len() { f32::from_bits(0xDEAD_BEEF) } else if e.active(v) { e.latest(d, v).unwrap_or(f32::NAN) } else { f32::NAN } }).collect();
+                self.row(format!("ALL {head}"), &all); }
+        }
+        self.e = Some(e);
+    }
     fn line(&mut self, l: &str) {
         let w: Vec<&str> = l.split_whitespace().collect(); if w.is_empty() || w[0].starts_with('#') { return; }
         let u = |i: usize| -> usize { w[i].parse().unwrap() };
         match w[0] {
-            "config" => self.config = (fl(w[1]), u(2), u(3)),
+            "config" => { self.config = (fl(w[1]), u(2), u(3)); if self.print != "cases" { let s = stride(self.config); self.out.push_str(&format!("CONFIG stride {s} chunks {}\n", self.config.1 / 32 + 2)); } }
             "source" => { if self.keys.contains(w[1]) || self.src.len() >= 128 { return; } self.keys.insert(w[1].to_string()); self.src.push(Source { kind: w[2].into(), voice: w[3] == "v", bip: w[4] == "b" }); }
             "dest" => { let (mn, mx, f) = (fl(w[4]), fl(w[5]), thing(w[6])); if self.dests.iter().any(|d| d.t == w[1]) || !(mn < mx) { return; } if let Some(Thing::Amt(n) | Thing::Out(n)) = f { if n >= 64 { return; } }
                 self.dests.push(Dest { t: w[1].into(), voice: w[2] == "v", rate: w[3].into(), min: mn, max: mx, feed: f }); }
@@ -420,7 +447,8 @@ impl Sess {
             "state" => self.state(),
             "memory" => self.memory(),
             "print" => self.print = w[1].into(),
-            "canon" | "memory_len" | "matrix_put" | "signal_part" | "latest" | "latest_all" | "ramp" | "is_active" | "rate" | "find" => {}
+            "latest" | "latest_all" | "ramp" | "is_active" | "rate" => self.reader(&w),
+            "canon" | "memory_len" | "matrix_put" | "signal_part" | "find" => {}
             _ => { let Some(e) = self.e.as_mut() else { return };
                 match w[0] {
                     "set_held" => { let i = u(1); if i < e.src.len() { if e.src[i].voice { e.held[i].fill(fl(w[2])) } else { e.hg[i] = fl(w[2]) } } }

@@ -55,7 +55,13 @@ fn on_source(p: Preset, line: &[u8]) -> Changed {
     let scope = w.scope;
     let range = w.range;
     let sources = p.sources;
-    let added = source::add(sources, words::key(session::word(line, 1)), kind, scope, range);
+    let added = source::add(
+        sources,
+        words::key(session::word(line, 1)),
+        kind,
+        scope,
+        range,
+    );
     source_set(p, added)
 }
 
