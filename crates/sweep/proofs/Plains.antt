@@ -106,12 +106,12 @@ module _ (t : Env) (x : Mix) where
   all-are zero h = refl
   all-are (suc k) h = rw (all-are k (fewer k h), h k (omega arith))
 
-  some-is : (k : ℕ) → 0 < k → Plain k → somePlain t x k ≡ true
+  pub some-is : (k : ℕ) → 0 < k → Plain k → somePlain t x k ≡ true
   unfolding somePlain
   some-is zero b h = absurd (omega arith)
   some-is (suc k) b h = rw (h k (omega arith)) (or-on (somePlain t x k))
 
-  others-none : (f : Rows) (s : Own) (l : ℕ) (a : Float) (k : ℕ) → Plain k → others t f s x l a k ≡ a
+  pub others-none : (f : Rows) (s : Own) (l : ℕ) (a : Float) (k : ℕ) → Plain k → others t f s x l a k ≡ a
   unfolding others
   others-none f s l a zero h = refl
   others-none f s l a (suc k) h = rw (h k (omega arith)) (others-none f s l a k (fewer k h))
@@ -165,13 +165,13 @@ module _ (t : Env) (x : Mix) where
 
 -- ---- a row whose lanes outside a span stay as they are
 
-inside : (a n l : ℕ) (p q : Float) → l < n → cond (leb a (a + l) && ltb (a + l) (a + n)) p q ≡ p
+pub inside : (a n l : ℕ) (p q : Float) → l < n → cond (leb a (a + l) && ltb (a + l) (a + n)) p q ≡ p
 inside a n l p q h = rw (le-leb a (a + l) (omega arith), lt-ltb (a + l) (a + n) (omega arith))
 
-before : (a n l : ℕ) (p q : Float) → l < a → cond (leb a l && ltb l (a + n)) p q ≡ q
+pub before : (a n l : ℕ) (p q : Float) → l < a → cond (leb a l && ltb l (a + n)) p q ≡ q
 before a n l p q h = rw (lt-leb a l h)
 
-after : (a n l : ℕ) (p q : Float) → cond (leb a (a + n + l) && ltb (a + n + l) (a + n)) p q ≡ q
+pub after : (a n l : ℕ) (p q : Float) → cond (leb a (a + n + l) && ltb (a + n + l) (a + n)) p q ≡ q
 after a n l p q = rw (le-leb a (a + n + l) (omega arith), le-ltb (a + n + l) (a + n) (omega arith))
 
 pub span-fill : (m : List Float) (b width a n : ℕ) (g f : ℕ → Float) → a + n ≤ width → ((l : ℕ) → l < width → g l ≡ cond (leb a l && ltb l (a + n)) (f l) (at m (b + l)))

@@ -175,8 +175,8 @@ fn group(
     put(audio, start + lane, row);
 }
 
-// the lanes of the span in the row that starts there
-fn span_row(
+// The lanes of the span in the row that starts there.
+pub fn span_row(
     audio: &mut [f32],
     pass: Pass,
     starts: &[usize],

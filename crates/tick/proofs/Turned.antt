@@ -2,7 +2,6 @@
 use mathlib.Core.Path.{_≡_, refl, sym, ap, subst, _∙_}
 use mathlib.Core.List.{List}
 use Prim.Native.Nat.{ℕ, _+_, _*_, _≤_, _<_}
-use native.Mathlib.Numerals.{add-one}
 use native.Mathlib.Omega.{arith}
 use lib.ListN.{getD}
 use lib.Ieee.{Float}
@@ -210,10 +209,6 @@ module _ (st : State) (t : Env) (phase : ℕ) (m : List Float) where
   pub turns-none : m ≡ turns st t phase 0 m
   unfolding turns
   turns-none = refl
-
-  pub turns-more : (k : ℕ) (v r : List Float) → v ≡ turns st t phase k m → r ≡ turn st t phase k v → r ≡ turns st t phase (k + 1) m
-  unfolding turns
-  turns-more k v r e h = rw (add-one, ← e) h
 
   pub tick-end : (k c : ℕ) (v : List Float) → v ≡ turns st t phase k m → k ≡ c → controlTotal (st .program) ≡ c → v ≡ tickOf st t phase m
   unfolding tickOf

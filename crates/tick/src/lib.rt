@@ -1,19 +1,23 @@
 // A control tick: the turn of each control plan, in the lent values (engine.rs 843-935; document 01, Chunk and value). The definitions are in model's specs/Tick.
-// A contract holds of every state and environment that have what the function is handed: specs/Turn says what that is.
+// Plans of which every route is plain and reads samples have their turns in crate turning, the others here. A contract holds of every state and environment that
+// have what the function is handed: specs/Turn and specs/Rounds say what that is.
 ghost use mathlib.Core.Path.{_≡_};
+ghost use mathlib.Core.List.{List};
 ghost use Prim.Native.Nat.{ℕ, _≤_, _<_};
+ghost use lib.ListN.{length};
+ghost use lib.Ieee.{Float};
 ghost use Rattle.config.specs.Sizes.{slots};
 ghost use Rattle.state.specs.declared.State.{State};
 ghost use Rattle.model.specs.Env.{Env, Rows, Own};
-ghost use Rattle.model.specs.Layout.{planFrom};
 ghost use Rattle.model.specs.Mix.{Mix};
-ghost use Rattle.model.specs.Tick.{heldSum, putSlews, slewAfter, turn, tickOf};
+ghost use Rattle.model.specs.Tick.{heldSum, putSlews, slewAfter, turn, turns, tickOf};
 ghost use Rattle.input.specs.Reads.{planRows};
-ghost use Rattle.route.specs.View.{mostValues, ownRows};
+ghost use Rattle.route.specs.View.{ownRows};
 ghost use Rattle.sum.specs.Job.{Bounded, laneCount, Sums};
 ghost use Rattle.slewing.specs.Rows.{IsRow};
 ghost use Rattle.slewing.specs.Seen.{Fits, Seen, IsMix, Lies};
 ghost use Rattle.tick.specs.Turn.{Given, IsTurn, jobOf, IsTick};
+ghost use Rattle.tick.specs.Rounds.{Sized, IsRound, IsLed, AreBases, Works};
 use config::SLOTS;
 use config::VOICES;
 use input::Scene;
@@ -21,15 +25,8 @@ use state::Plan;
 use state::Route;
 use state::Signals;
 use sum::Job;
-
-// Where the rows of a plan start in the values: where its ramps start, and a stride further on its numbers.
-pub fn plan_from(stride: usize, chunks: usize, d: usize) -> usize
-    requires { ⌜ (stride ≤ 64) × (chunks ≤ 130) × (d < slots) ⌝ }
-    ensures { λ r. ⌜ (r ≡ planFrom stride chunks d) × (r ≤ mostValues) ⌝ }
-{
-    let size = input::plan_size(stride, chunks);
-    d * size
-}
+use sweep::Leads;
+use turning::Round;
 
 // The sums of a plan, held to its bounds, in each lane of its row.
 pub fn held_sums(
@@ -99,7 +96,7 @@ pub fn turn(
     let plan = job.plan;
     let scene = job.scene;
     let n = sum::lane_count(job);
-    let from = plan_from(scene.stride, job.chunks, d);
+    let from = turning::plan_from(scene.stride, job.chunks, d);
     let to = from + scene.stride;
     let tick = slewing::tick_of(scene, phase, plan.voice);
     let sums = held_sums(job, held, globals, bases, tables, samples, values);
@@ -134,6 +131,136 @@ pub fn job_of(
     }
 }
 
+// What a tick is worked out from, besides the lent numbers: the plans, of which `plans` are there and the first `control` are control plans, the routes, scene and
+// signals, how many chunks a plan has room for, and the phase.
+pub struct Work {
+    pub plan: [Plan; SLOTS],
+    pub control: usize,
+    pub routes: [Route; SLOTS],
+    pub scene: Scene,
+    pub signals: Signals,
+    pub chunks: usize,
+    pub plans: usize,
+    pub phase: usize,
+}
+
+// what each route is swept by
+fn leads_of(work: Work, samples: &[f32]) -> Leads
+    ensures { λ r. ⌜ IsLed work (now (samples .entry)) r ⌝ }
+{
+    let routes = work.routes;
+    let scene = work.scene;
+    let signals = work.signals;
+    let levels = scene.gains;
+    let up_to = turning::last(scene.up_to);
+    sweep::leads_of(routes, signals, levels, scene.stride, up_to, samples)
+}
+
+// what the turns go by
+fn round_of(work: Work) -> Round
+    requires { ⌜ Sized work ⌝ }
+    ensures { λ r. ⌜ IsRound work r ⌝ }
+{
+    let scene = work.scene;
+    let voices = scene.voices;
+    let active = voices.active;
+    let field = turning::field_at(active, scene.stride, scene.frame, scene.up_to);
+    let tick = slewing::tick_of(scene, work.phase, true);
+    Round {
+        field,
+        tick,
+        chunks: work.chunks,
+        frame: scene.frame,
+        control: work.control,
+    }
+}
+
+// the bases of the control plans
+fn bases_of(work: Work, globals: &[f32], bases: &[f32]) -> [f32; SLOTS]
+    requires { ⌜ Sized work ⌝ }
+    ensures { λ r. ⌜ (length r ≡ slots) × AreBases work (now (globals .entry)) (now (bases .entry)) r ⌝ }
+{
+    let plan = work.plan;
+    let levels = work.scene.gains;
+    turning::bases_of(plan, work.control, levels, globals, bases)
+}
+
+// the turn of plan d, where it is a control plan: the next
+fn turn_at(
+    values: &mut [f32],
+    work: Work,
+    d: usize,
+    held: &[f32],
+    globals: &[f32],
+    bases: &[f32],
+    tables: &[f32],
+    samples: &[f32],
+) -> usize
+    requires { ⌜ Sized work × (d ≤ work .control) ⌝ }
+    ensures { λ r. ⌜ (d ≤ r) × (r ≤ work .control) × (d < work .control → d < r) × ((st : State) (t : Env) (m : List Float) → Works st t work (now (held .entry)) (now (globals .entry)) (now (bases .entry)) (now (tables .entry)) (now (samples .entry)) → now (values .entry) ≡ turns st t (work .phase) d m → now (values .exit) ≡ turns st t (work .phase) r m) ⌝ }
+{
+    if work.control <= d {
+        return d;
+    }
+    let plan = work.plan;
+    let routes = work.routes;
+    let scene = work.scene;
+    let signals = work.signals;
+    let job = job_of(plan, d, routes, scene, signals, work.chunks, work.plans);
+    turn(
+        values,
+        job,
+        d,
+        work.phase,
+        held,
+        globals,
+        bases,
+        tables,
+        samples,
+    );
+    d + 1
+}
+
+// the turns of the control plans: those that are swept together, then the one that is not
+fn turns_of(
+    values: &mut [f32],
+    work: Work,
+    held: &[f32],
+    globals: &[f32],
+    bases: &[f32],
+    tables: &[f32],
+    samples: &[f32],
+)
+    requires { ⌜ Sized work ⌝ }
+    ensures { λ _. ⌜ ((st : State) (t : Env) → Works st t work (now (held .entry)) (now (globals .entry)) (now (bases .entry)) (now (tables .entry)) (now (samples .entry)) → now (values .exit) ≡ tickOf st t (work .phase) (now (values .entry))) ⌝ }
+{
+    let plan = work.plan;
+    let round = round_of(work);
+    let own = bases_of(work, globals, bases);
+    let leads = leads_of(work, samples);
+    let starts = leads.starts;
+    let steps = leads.steps;
+    let gains = leads.gains;
+    let offsets = leads.offsets;
+    let mut d = 0usize;
+    while d < work.control {
+        let k = turning::turns(
+            values,
+            round,
+            plan,
+            d,
+            &own,
+            &starts,
+            &steps,
+            &gains,
+            &offsets,
+            samples,
+        );
+        let next = turn_at(values, work, k, held, globals, bases, tables, samples);
+        d = next;
+    }
+}
+
 // THE TICK: the turn of each control plan, in order.
 pub fn tick(
     values: &mut [f32],
@@ -154,10 +281,18 @@ pub fn tick(
     requires { ⌜ Fits scene chunks plans × (control ≤ plans) ⌝ }
     ensures { λ _. ⌜ ((st : State) (t : Env) → IsTick st plan control routes (scene .stride) chunks plans → Given t scene signals (now (held .entry)) (now (globals .entry)) (now (bases .entry)) (now (tables .entry)) (now (samples .entry)) → now (values .exit) ≡ tickOf st t phase (now (values .entry))) ⌝ }
 {
-    let mut d = 0usize;
-    while d < control {
-        let job = job_of(plan, d, routes, scene, signals, chunks, plans);
-        turn(values, job, d, phase, held, globals, bases, tables, samples);
-        d += 1;
+    if control == 0 {
+        return;
     }
+    let work = Work {
+        plan,
+        control,
+        routes,
+        scene,
+        signals,
+        chunks,
+        plans,
+        phase,
+    };
+    turns_of(values, work, held, globals, bases, tables, samples);
 }

@@ -1,11 +1,11 @@
--- `tick::plan_from` meets its contract.
-use borrow.Author.Needs.{needs}
+-- `turning::plan_from` meets its contract.
 use mathlib.Core.Path.{ap}
 use Prim.Native.Nat.{ℕ, _*_}
 use native.Mathlib.Omega.{arith}
 use Rattle.input.proofs.Numbers.{product-bound}
-use Rattle.tick.proofs.plan_from.Statement.{statement}
-use Rattle.tick.proofs.plan_from.Tie as tie
+use borrow.Author.Needs.{needs}
+use Rattle.turning.proofs.plan_from.Statement.{statement}
+use Rattle.turning.proofs.plan_from.Tie as tie
 
 plan-size-requires : tie.Need-plan-size-requires
 plan-size-requires c κs = search needs

@@ -1,0 +1,16 @@
+-- `turning::steady` meets its contract.
+use mathlib.Core.Path.{refl}
+use Rattle.input.proofs.Tests.{was-true}
+use Rattle.sweep.proofs.Kept.{never}
+use Rattle.turning.proofs.Rows.{quiet}
+use Rattle.turning.proofs.steady.Statement.{statement}
+use Rattle.turning.proofs.steady.Tie as tie
+
+returns : tie.Need-returns
+returns c = λ h. never h
+
+returns-2 : tie.Need-returns-2
+returns-2 c = λ h. (was-true refl (c .before .if1 .left), quiet h)
+
+pub steady-spec : {M : Type 1} → statement M
+steady-spec = tie.close (tie.spec returns returns-2)
