@@ -350,7 +350,7 @@ fn unipolar(bipolar: bool, u: f32) -> f32
 }
 
 // the table at a place, at u; a number that the tables have not got is a NaN
-fn look_up(tables: &[f32], place: usize, u: f32) -> f32
+pub fn look_up(tables: &[f32], place: usize, u: f32) -> f32
     requires { ⌜ place < 512 ⌝ }
     ensures { λ r. ⌜ r ≡ lookupOf (rowAt (now (tables .entry)) points place) u ⌝ }
 {

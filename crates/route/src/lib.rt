@@ -100,7 +100,7 @@ pub fn view_of(scene: Scene, signals: Signals, chunks: usize, own: usize, route:
 // ---- own rows
 
 // where row q of the own rows starts
-fn own_row(own: usize, stride: usize, q: usize) -> usize
+pub fn own_row(own: usize, stride: usize, q: usize) -> usize
     requires { ⌜ (own ≤ mostValues) × (stride ≤ 64) × (q < 4) ⌝ }
     ensures { λ r. ⌜ r ≡ own + q * stride ⌝ }
 {
@@ -108,7 +108,7 @@ fn own_row(own: usize, stride: usize, q: usize) -> usize
 }
 
 // the number of row q in a lane; beyond the stride there is no lane
-fn own_at(values: &[f32], own: usize, stride: usize, q: usize, lane: usize) -> f32
+pub fn own_at(values: &[f32], own: usize, stride: usize, q: usize, lane: usize) -> f32
     requires { ⌜ (own ≤ mostValues) × (stride ≤ 64) × (q < 4) ⌝ }
     ensures { λ r. ⌜ ((t : Env) (s : Own) (j : ℕ) → t .stride ≡ stride → IsOwn s j own stride (now (values .entry)) → r ≡ ownAt t s j q lane) ⌝ }
 {
@@ -284,7 +284,7 @@ pub fn free_slew(slew: Slew) -> bool
 }
 
 // whether an input has neither curve nor slew
-fn is_bare(input: Input) -> bool
+pub fn is_bare(input: Input) -> bool
     ensures { λ r. ⌜ r ≡ not (input .table) && freeSlew (input .slew) ⌝ }
 {
     if input.table {
@@ -536,7 +536,7 @@ pub fn moves_in(plain: bool, idle: bool, worked: bool) -> bool
 }
 
 // the number of own row q in a lane, kept
-fn own_kept(values: &[f32], own: usize, stride: usize, q: usize, lane: usize) -> f32
+pub fn own_kept(values: &[f32], own: usize, stride: usize, q: usize, lane: usize) -> f32
     requires { ⌜ (own ≤ mostValues) × (stride ≤ 64) × (q < 4) ⌝ }
     ensures { λ r. ⌜ ((s : Own) (j : ℕ) → IsOwn s j own stride (now (values .entry)) → r ≡ s j q lane) ⌝ }
 {

@@ -11,7 +11,7 @@ use lib.Seq.{getD-set-same, getD-set-other, set-out}
 use lib.Ieee.{Float, nan}
 use Rattle.model.specs.Counts.{at}
 use Rattle.model.specs.Tick.{fillFrom, lanesFrom}
-use Rattle.model.proofs.FillFrom.{fill-same}
+use Rattle.model.proofs.FillFrom.{fill-same, fill-inside}
 use Rattle.slewing.specs.Rows.{IsRow}
 
 -- ---- made
@@ -51,3 +51,7 @@ fill-end m a g l k n e h = e ∙ ap (fillFrom m a g) h
 -- from the first lane of a row on
 pub fill-row : (m : List Float) (a : ℕ) (row : List Float) (n : ℕ) {r : List Float} → r ≡ fillFrom m a (lanesFrom row 0) n → r ≡ fillFrom m a (at row) n
 fill-row m a row n e = e ∙ fill-same m a (lanesFrom row 0) (at row) n (λ l h. ap (at row) (zero-add l))
+
+-- a row that is put from the first number on
+pub row-put : (m o : List Float) (g : ℕ → Float) (n : ℕ) → o ≡ fillFrom m 0 g n → n ≤ length m → IsRow n g o
+row-put m o g n e b l h = ap (λ (y : List Float). at y l) e ∙ ap (at (fillFrom m 0 g n)) (sym (zero-add l)) ∙ fill-inside m 0 g n l h (omega arith)

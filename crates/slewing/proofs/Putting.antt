@@ -227,21 +227,22 @@ slews-put : (st : State) (d : ℕ) (g : Own) (m : List Float) (routes : List Rou
 slews-put st d g m routes new s c n a k lies = rw (lies .stride, lies .chunks, lies .plans, lies .first) at (put-is st d g m routes new k)
 
 -- THE SLEWS: the new ones of the first k routes are put, and those from there on stand still
-pub slews-done : (t : Env) (x : Mix) (st : State) (d : ℕ) (g : Stage) (routes : List Route) (s c n a : ℕ) (m new r : List Float) (k : ℕ) → t .stride ≡ s → Into t x g routes a → Lies st d s c n a
+pub slews-done : (t : Env) (x : Mix) (st : State) (d : ℕ) (routes : List Route) (s c n a : ℕ) (m new r : List Float) (k : ℕ) → t .stride ≡ s
+    → ((j : ℕ) → j < x .count → x .route j ≡ getD routes (a + j) noRoute) → Lies st d s c n a
     → k ≤ x .count → ((j : ℕ) → k ≤ j → j < x .count → still (getD routes (a + j) noRoute) ≡ true)
     → ((j : ℕ) → j < k → IsNew t x (planRows s c m) (ownRows s c n a m) j (x .route j) new)
     → r ≡ putNew s c n a routes new k m
     → r ≡ putSlews st d (slewAfter t x (planRows s c m) (ownRows s c n a m)) (x .count) m
-slews-done t x st d g routes s c n a m new r k w into lies b past news e =
+slews-done t x st d routes s c n a m new r k w from lies b past news e =
     let f = planRows s c m in
     let o = ownRows s c n a m in
     e
     ∙ put-still s c n a routes new (x .count) k m b past
     ∙ slews-put st d (slewAfter t x f o) m routes new s c n a (x .count) lies
     (λ j h off. made′ j h off (decLt j k))
-    (λ j h on q l v i. stands t x f o j q l (getD routes (a + j) noRoute) (into .route j h) on v)
+    (λ j h on q l v i. stands t x f o j q l (getD routes (a + j) noRoute) (from j h) on v)
   where
     made′ : (j : ℕ) → j < x .count → still (getD routes (a + j) noRoute) ≡ false → Dec (j < k) → (q l : ℕ) → q < 2 → l < s
         → at new (newStart j q + l) ≡ slewAfter t x (planRows s c m) (ownRows s c n a m) j q l
-    made′ j h off (yes z) q l v i = news j z (ap still (into .route j h) ∙ off) q l v (omega arith)
+    made′ j h off (yes z) q l v i = news j z (ap still (from j h) ∙ off) q l v (omega arith)
     made′ j h off (no z) q l v i = let on = past j (omega arith) h in let u : _≡_ {A = ℕ} 0 1 = cc in absurd (omega arith)

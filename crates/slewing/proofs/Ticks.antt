@@ -35,3 +35,7 @@ module _ (t : Env) (phase : ℕ) (x : Mix) (f : Rows) (s : Own) (o a : ℕ → F
       → v ≡ newFrom t phase x f s o a l
   unfolding newFrom
   from-old e off q z0 d n k = rw (sym e ∙ off, sym q ∙ z0, ap not d ∙ n) k
+
+-- no voice starts in a chunk that is not its first
+pub no-start : (t : Env) (x : Mix) (l : ℕ) {b : Bool} → t .snap ≡ b → b ≡ false → false ≡ starting t x l
+no-start t x l e h = rw (e ∙ h)

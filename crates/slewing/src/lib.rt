@@ -9,6 +9,7 @@ ghost use lib.Ieee.{Float, nan};
 ghost use Rattle.config.specs.Sizes.{slots};
 ghost use Rattle.number.specs.Number.{hold};
 ghost use Rattle.state.specs.declared.Route.{Route};
+ghost use Rattle.filled.specs.Filled.{noRoute};
 ghost use Rattle.state.specs.declared.State.{State};
 ghost use Rattle.model.specs.Counts.{at};
 ghost use Rattle.model.specs.Env.{Env, Rows, Own, liveAmount, liveOutput};
@@ -52,6 +53,33 @@ fn put_lane(values: &mut [f32], start: usize, lane: usize, x: f32)
 
 // The first n lanes of the row that starts at `start` become those that start at `at` in `from`; beyond the end of the slice nothing is written.
 pub fn put_part(values: &mut [f32], start: usize, from: &[f32], at: usize, n: usize)
+    ensures { λ _. ⌜ now (values .exit) ≡ fillFrom (now (values .entry)) start (lanesFrom (now (from .entry)) at) n ⌝ }
+{
+    if !sum::fits(values.len(), start, n) {
+        put_each(values, start, from, at, n);
+        return;
+    }
+    if !sum::fits(from.len(), at, n) {
+        put_each(values, start, from, at, n);
+        return;
+    }
+    put_whole(values, start, from, at, n);
+}
+
+// the same, where both rows lie in their slices
+fn put_whole(values: &mut [f32], start: usize, from: &[f32], at: usize, n: usize)
+    requires { ⌜ (start + n ≤ length (now values)) × (at + n ≤ length (now from)) ⌝ }
+    ensures { λ _. ⌜ now (values .exit) ≡ fillFrom (now (values .entry)) start (lanesFrom (now (from .entry)) at) n ⌝ }
+{
+    let mut l = 0usize;
+    while l < n {
+        values[start + l] = from[at + l];
+        l += 1;
+    }
+}
+
+// the same, lane by lane
+fn put_each(values: &mut [f32], start: usize, from: &[f32], at: usize, n: usize)
     ensures { λ _. ⌜ now (values .exit) ≡ fillFrom (now (values .entry)) start (lanesFrom (now (from .entry)) at) n ⌝ }
 {
     let mut l = 0usize;
@@ -185,6 +213,30 @@ pub fn to_row(
     requires { ⌜ n ≤ 64 ⌝ }
     ensures { λ r. ⌜ ((t : Env) (x : Mix) (f : Rows) (s : Own) → Ticks t x tick → IsRow n (heldSum t f s x) sums → IsRow n (newTo t (tick .phase) x f s (lanesFrom (now (values .entry)) start)) r) ⌝ }
 {
+    if tick.snap {
+        return to_each(tick, sums, values, start, n);
+    }
+    if kept(tick.phase, tick.primed, false) {
+        return row_from(values, start, n);
+    }
+    sums
+}
+
+// the n numbers from `start` on
+pub fn row_from(values: &[f32], start: usize, n: usize) -> [f32; VOICES]
+    requires { ⌜ n ≤ 64 ⌝ }
+    ensures { λ r. ⌜ IsRow n (lanesFrom (now (values .entry)) start) r ⌝ }
+{
+    let mut out = [0.0; VOICES];
+    put_part(&mut out, 0, values, start, n);
+    out
+}
+
+// the same, lane by lane
+fn to_each(tick: Tick, sums: [f32; VOICES], values: &[f32], start: usize, n: usize) -> [f32; VOICES]
+    requires { ⌜ n ≤ 64 ⌝ }
+    ensures { λ r. ⌜ ((t : Env) (x : Mix) (f : Rows) (s : Own) → Ticks t x tick → IsRow n (heldSum t f s x) sums → IsRow n (newTo t (tick .phase) x f s (lanesFrom (now (values .entry)) start)) r) ⌝ }
+{
     let mut out = [0.0; VOICES];
     let mut l = 0usize;
     while l < n {
@@ -197,6 +249,30 @@ pub fn to_row(
 
 // Where the ramps of a plan start in its first n lanes: of the held sums, the numbers that start at `start`, and the starts before, at `from`.
 pub fn from_row(
+    tick: Tick,
+    sums: [f32; VOICES],
+    values: &[f32],
+    start: usize,
+    from: usize,
+    n: usize,
+) -> [f32; VOICES]
+    requires { ⌜ n ≤ 64 ⌝ }
+    ensures { λ r. ⌜ ((t : Env) (x : Mix) (f : Rows) (s : Own) → Ticks t x tick → IsRow n (heldSum t f s x) sums → IsRow n (newFrom t (tick .phase) x f s (lanesFrom (now (values .entry)) start) (lanesFrom (now (values .entry)) from)) r) ⌝ }
+{
+    if tick.snap {
+        return from_each(tick, sums, values, start, from, n);
+    }
+    if kept(tick.phase, tick.primed, false) {
+        return row_from(values, from, n);
+    }
+    if !tick.primed {
+        return sums;
+    }
+    row_from(values, start, n)
+}
+
+// the same, lane by lane
+fn from_each(
     tick: Tick,
     sums: [f32; VOICES],
     values: &[f32],
@@ -326,7 +402,7 @@ pub fn aux_row(
 pub const NEW: usize = 8192;
 
 // whether an aux, where there is one, has no slew
-fn aux_free(aux: Aux) -> bool
+pub fn aux_free(aux: Aux) -> bool
     ensures { λ r. ⌜ r ≡ auxFree aux ⌝ }
 {
     match aux {
@@ -335,7 +411,7 @@ fn aux_free(aux: Aux) -> bool
     }
 }
 
-fn input_free(input: Input) -> bool
+pub fn input_free(input: Input) -> bool
     ensures { λ r. ⌜ r ≡ freeSlew (input .slew) ⌝ }
 {
     let slew = input.slew;
@@ -355,7 +431,7 @@ pub fn still(route: Route) -> bool
 }
 
 // the new slews of route j of a plan into their places; the places of the routes before it stay as they are
-fn new_route(
+pub fn new_route(
     new: &mut [f32],
     j: usize,
     route: Route,
@@ -479,7 +555,7 @@ fn put_route(values: &mut [f32], stride: usize, route: Route, own: usize, new: &
 }
 
 // those of the first n routes of a plan whose first route is `first`
-fn put_new(
+pub fn put_new(
     values: &mut [f32],
     stride: usize,
     chunks: usize,
@@ -520,7 +596,7 @@ fn all_still(routes: [Route; SLOTS], first: usize, n: usize) -> bool
 }
 
 // how many of a plan's routes there are, where its first is there
-fn routes_there(first: usize, count: usize) -> usize
+pub fn routes_there(first: usize, count: usize) -> usize
     requires { ⌜ first < slots ⌝ }
     ensures { λ r. ⌜ (r ≤ count) × (first + r ≤ slots) × ((j : ℕ) → r ≤ j → j < count → slots ≤ first + j) ⌝ }
 {
@@ -532,7 +608,7 @@ fn routes_there(first: usize, count: usize) -> usize
 }
 
 // room for the new slews
-fn room() -> [f32; NEW]
+pub fn room() -> [f32; NEW]
     ensures { λ r. ⌜ length r ≡ newNeed ⌝ }
 {
     [0.0; NEW]
@@ -612,6 +688,27 @@ fn put_there(
         tables,
         samples,
     );
+}
+
+// The new slews of `count` routes from `first` on, where there are such, put where they lie.
+pub fn put_made(
+    values: &mut [f32],
+    first: usize,
+    count: usize,
+    routes: [Route; SLOTS],
+    stride: usize,
+    chunks: usize,
+    plans: usize,
+    new: &[f32],
+)
+    requires { ⌜ (stride ≤ 64) × (chunks ≤ 130) × (plans ≤ slots) ⌝ }
+    ensures { λ _. ⌜ ((t : Env) (x : Mix) (st : State) (d : ℕ) → t .stride ≡ stride → x .count ≡ count → ((j : ℕ) → j < x .count → x .route j ≡ getD routes (first + j) noRoute) → Lies st d stride chunks plans first → ((j : ℕ) → j < x .count → j < slots → IsNew t x (planRows stride chunks (now (values .entry))) (ownRows stride chunks plans first (now (values .entry))) j (x .route j) (now (new .entry))) → now (values .exit) ≡ putSlews st d (slewAfter t x (planRows stride chunks (now (values .entry))) (ownRows stride chunks plans first (now (values .entry)))) (x .count) (now (values .entry))) ⌝ }
+{
+    if SLOTS <= first {
+        return;
+    }
+    let n = routes_there(first, count);
+    put_new(values, stride, chunks, plans, first, routes, new, n);
 }
 
 // The slews of a plan's routes as they are after the plan was worked out from the values as they stand.

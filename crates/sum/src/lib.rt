@@ -138,14 +138,14 @@ fn no_route() -> Route
 }
 
 // a count, which is a usize
-fn counted(n: usize) -> usize
+pub fn counted(n: usize) -> usize
     ensures { λ r. ⌜ (r ≡ n) × (r ≤ 18446744073709551615) ⌝ }
 {
     n
 }
 
 // the routes of a job's program, and how many there is room for
-fn routes_of(job: Job) -> [Route; SLOTS]
+pub fn routes_of(job: Job) -> [Route; SLOTS]
     ensures { λ r. ⌜ (r ≡ job .routes) × (length r ≡ slots) ⌝ }
 {
     let routes = job.routes;
@@ -153,7 +153,7 @@ fn routes_of(job: Job) -> [Route; SLOTS]
 }
 
 // the parts of the signals, and how many there are
-fn parts_of(signals: Signals) -> [SignalPart; SOURCES]
+pub fn parts_of(signals: Signals) -> [SignalPart; SOURCES]
     ensures { λ r. ⌜ (r ≡ signals .part) × (length r ≡ mostSources) ⌝ }
 {
     let parts = signals.part;
@@ -161,7 +161,7 @@ fn parts_of(signals: Signals) -> [SignalPart; SOURCES]
 }
 
 // where route j after the first stands; 0 where there is none
-fn route_index(first: usize, j: usize) -> usize
+pub fn route_index(first: usize, j: usize) -> usize
     ensures { λ r. ⌜ (r < slots) × (first + j < slots → r ≡ first + j) ⌝ }
 {
     if SLOTS <= first {
@@ -174,7 +174,7 @@ fn route_index(first: usize, j: usize) -> usize
 }
 
 // what was read there, where there is such a route
-fn route_or(first: usize, j: usize, stored: Route) -> Route
+pub fn route_or(first: usize, j: usize, stored: Route) -> Route
     ensures { λ r. ⌜ r ≡ cond (ltb (first + j) slots) stored noRoute ⌝ }
 {
     if SLOTS <= first {
@@ -209,7 +209,7 @@ fn input_key(input: Input) -> usize
     part_key(read)
 }
 
-fn source_key(route: Route) -> usize
+pub fn source_key(route: Route) -> usize
     ensures { λ r. ⌜ r ≡ partKey (route .source .read) ⌝ }
 {
     let source = route.source;
@@ -225,7 +225,7 @@ fn aux_key(aux: Aux) -> usize
     }
 }
 
-fn route_aux_key(route: Route) -> usize
+pub fn route_aux_key(route: Route) -> usize
     ensures { λ r. ⌜ r ≡ auxKey (route .aux) ⌝ }
 {
     let aux = route.aux;
@@ -243,7 +243,7 @@ pub fn part_index(key: usize) -> usize
 }
 
 // what was read there, where there is such a part
-fn part_or(key: usize, stored: SignalPart) -> SignalPart
+pub fn part_or(key: usize, stored: SignalPart) -> SignalPart
     ensures { λ r. ⌜ r ≡ cond (ltb key mostSources) stored noPart ⌝ }
 {
     if key < SOURCES {
@@ -308,7 +308,7 @@ pub fn view_for(ground: Ground, j: usize, route: Route, source: SignalPart, aux:
 }
 
 // whether a route whose source reads that part is plain
-fn is_plain(ground: Ground, route: Route, part: SignalPart) -> bool
+pub fn is_plain(ground: Ground, route: Route, part: SignalPart) -> bool
     ensures { λ r. ⌜ ((t : Env) (w : Job) → ground ≡ groundOf w → IsScene t (w .scene) (w .signals) → part ≡ partFor (w .signals) (route .source .read) → r ≡ plain t (w .plan .voice) route) ⌝ }
 {
     let point = ground.point;
@@ -594,7 +594,7 @@ fn add_raw(
 }
 
 // whether n numbers from `start` on lie within a length
-fn fits(len: usize, start: usize, n: usize) -> bool
+pub fn fits(len: usize, start: usize, n: usize) -> bool
     ensures { λ r. ⌜ r ≡ leb (start + n) len ⌝ }
 {
     if len < start {
@@ -604,7 +604,7 @@ fn fits(len: usize, start: usize, n: usize) -> bool
 }
 
 // the place of a held row
-fn held_place(voice: bool, source: u8, stride: usize, held: &[f32]) -> Place
+pub fn held_place(voice: bool, source: u8, stride: usize, held: &[f32]) -> Place
     requires { ⌜ stride ≤ 64 ⌝ }
     ensures { λ r. ⌜ ((i m : List Float) → Inside r stride (now (held .entry)) i m × ((z : ℕ → Float) → ((l : ℕ) → voice ≡ true → z l ≡ at (now (held .entry)) (source * stride + l)) → (l : ℕ) → Tells r (now (held .entry)) i m l (z l))) ⌝ }
 {
@@ -619,7 +619,7 @@ fn held_place(voice: bool, source: u8, stride: usize, held: &[f32]) -> Place
 }
 
 // the place of the row that starts there in the values
-fn values_place(voice: bool, start: usize, stride: usize, values: &[f32]) -> Place
+pub fn values_place(voice: bool, start: usize, stride: usize, values: &[f32]) -> Place
     ensures { λ r. ⌜ ((h i : List Float) → Inside r stride h i (now (values .entry)) × ((z : ℕ → Float) → ((l : ℕ) → l < stride → voice ≡ true → z l ≡ at (now (values .entry)) (start + l)) → (l : ℕ) → l < stride → Tells r h i (now (values .entry)) l (z l))) ⌝ }
 {
     if !voice {
@@ -646,7 +646,7 @@ fn frame_place(from: usize, row: usize, stride: usize, samples: &[f32]) -> Place
 }
 
 // the place of a signal's row
-fn signal_place(
+pub fn signal_place(
     voice: bool,
     part: SignalPart,
     frame: usize,
@@ -1106,7 +1106,7 @@ fn one_row(
 }
 
 // a route's values, added in each lane of the plan
-fn other_lanes(
+pub fn other_lanes(
     voice: bool,
     reach: Reach,
     route: Route,
@@ -1274,7 +1274,7 @@ fn add_others(
 // ---- the sum
 
 // what the others are added to at a tick
-fn tick_begun(
+pub fn tick_begun(
     job: Job,
     base: f32,
     held: &[f32],

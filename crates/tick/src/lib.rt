@@ -14,6 +14,7 @@ ghost use Rattle.model.specs.Tick.{heldSum, putSlews, slewAfter, turn, turns, t
 ghost use Rattle.input.specs.Reads.{planRows};
 ghost use Rattle.route.specs.View.{ownRows};
 ghost use Rattle.sum.specs.Job.{Bounded, laneCount, Sums};
+ghost use Rattle.slewing.specs.Put.{newNeed, IsNew};
 ghost use Rattle.slewing.specs.Rows.{IsRow};
 ghost use Rattle.slewing.specs.Seen.{Fits, Seen, IsMix, Lies};
 ghost use Rattle.tick.specs.Turn.{Given, IsTurn, jobOf, IsTick};
@@ -28,8 +29,9 @@ use sum::Job;
 use sweep::Leads;
 use turning::Round;
 
-// The sums of a plan, held to its bounds, in each lane of its row.
+// The sums of a plan, held to its bounds, in each lane of its row, and the new slews of its routes.
 pub fn held_sums(
+    new: &mut [f32],
     job: Job,
     held: &[f32],
     globals: &[f32],
@@ -38,43 +40,32 @@ pub fn held_sums(
     samples: &[f32],
     values: &[f32],
 ) -> [f32; VOICES]
-    requires { ⌜ Bounded job ⌝ }
-    ensures { λ r. ⌜ ((t : Env) (f : Rows) (s : Own) (x : Mix) → Sums t f s x job (now (held .entry)) (now (globals .entry)) (now (bases .entry)) (now (tables .entry)) (now (samples .entry)) (now (values .entry)) → IsRow (laneCount job) (heldSum t f s x) r) ⌝ }
+    requires { ⌜ Bounded job × (length (now new) ≡ newNeed) ⌝ }
+    ensures { λ r. ⌜ ((t : Env) (f : Rows) (s : Own) (x : Mix) → Sums t f s x job (now (held .entry)) (now (globals .entry)) (now (bases .entry)) (now (tables .entry)) (now (samples .entry)) (now (values .entry)) → IsRow (laneCount job) (heldSum t f s x) r × ((j : ℕ) → j < x .count → j < slots → IsNew t x f s j (x .route j) (now (new .exit)))) ⌝ }
 {
     let plan = job.plan;
     let n = sum::lane_count(job);
-    let sums = sum::tick_row(job, held, globals, bases, tables, samples, values);
+    let sums = mixing::mix(new, job, held, globals, bases, tables, samples, values);
     slewing::hold_row(sums, plan.min, plan.max, n)
 }
 
-// the slews of the routes of a job's plan as they are after the plan was worked out from the values as they stand.
-fn put_slews(
-    values: &mut [f32],
-    job: Job,
-    held: &[f32],
-    globals: &[f32],
-    tables: &[f32],
-    samples: &[f32],
-)
+// the new slews of the routes of a job's plan, put where they lie
+fn put_slews(values: &mut [f32], job: Job, new: &[f32])
     requires { ⌜ Bounded job ⌝ }
-    ensures { λ _. ⌜ ((t : Env) (x : Mix) (st : State) (d : ℕ) → Seen t (job .scene) (job .signals) (now (held .entry)) (now (globals .entry)) (now (tables .entry)) (now (samples .entry)) → IsMix x (job .plan) (job .routes) → Lies st d (job .scene .stride) (job .chunks) (job .plans) (job .plan .first) → now (values .exit) ≡ putSlews st d (slewAfter t x (planRows (job .scene .stride) (job .chunks) (now (values .entry))) (ownRows (job .scene .stride) (job .chunks) (job .plans) (job .plan .first) (now (values .entry)))) (x .count) (now (values .entry))) ⌝ }
+    ensures { λ _. ⌜ ((t : Env) (x : Mix) (st : State) (d : ℕ) → t .stride ≡ job .scene .stride → IsMix x (job .plan) (job .routes) → Lies st d (job .scene .stride) (job .chunks) (job .plans) (job .plan .first) → ((j : ℕ) → j < x .count → j < slots → IsNew t x (planRows (job .scene .stride) (job .chunks) (now (values .entry))) (ownRows (job .scene .stride) (job .chunks) (job .plans) (job .plan .first) (now (values .entry))) j (x .route j) (now (new .entry))) → now (values .exit) ≡ putSlews st d (slewAfter t x (planRows (job .scene .stride) (job .chunks) (now (values .entry))) (ownRows (job .scene .stride) (job .chunks) (job .plans) (job .plan .first) (now (values .entry)))) (x .count) (now (values .entry))) ⌝ }
 {
     let plan = job.plan;
-    let routes = job.routes;
     let scene = job.scene;
-    let signals = job.signals;
-    slewing::put_slews(
+    let routes = job.routes;
+    slewing::put_made(
         values,
-        plan,
+        plan.first,
+        plan.count,
         routes,
-        scene,
-        signals,
+        scene.stride,
         job.chunks,
         job.plans,
-        held,
-        globals,
-        tables,
-        samples,
+        new,
     );
 }
 
@@ -99,10 +90,11 @@ pub fn turn(
     let from = turning::plan_from(scene.stride, job.chunks, d);
     let to = from + scene.stride;
     let tick = slewing::tick_of(scene, phase, plan.voice);
-    let sums = held_sums(job, held, globals, bases, tables, samples, values);
+    let mut new = slewing::room();
+    let sums = held_sums(&mut new, job, held, globals, bases, tables, samples, values);
     let starts = slewing::from_row(tick, sums, values, to, from, n);
     let ends = slewing::to_row(tick, sums, values, to, n);
-    put_slews(values, job, held, globals, tables, samples);
+    put_slews(values, job, &new);
     slewing::put_row(values, from, starts, n);
     slewing::put_row(values, to, ends, n);
 }

@@ -31,7 +31,7 @@ returns c = let a = c .before .before .before .before .before .before .before .b
     let new = c .before .before .before .before .before .before .new-slews in
     let long : length (a .routes) ≡ 64 = c .before .before .before .before .before .before .before .before .before .before .before .before .before .before .before .good .1 .1 .1 .0 .1 .0 .1 in
     λ t x st d e into most past lies.
-    slews-done t x st d g (a .routes) (g .scene .stride) (g .chunks) (g .plans) (a .first) (a .values .now) (new .last .0) _ (a .n) (e .scene .stride) into lies most
+    slews-done t x st d (a .routes) (g .scene .stride) (g .chunks) (g .plans) (a .first) (a .values .now) (new .last .0) _ (a .n) (e .scene .stride) (into .route) lies most
     (λ j h b. none-past (a .routes) (a .first + j) long (past j h b))
     (new .ensures t x e into most)
     (c .before .before .put-new .ensures)

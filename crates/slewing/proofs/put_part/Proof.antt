@@ -1,64 +1,55 @@
--- `slewing::put_part` meets its contract. The invariant: the lanes before l are put.
+-- `slewing::put_part` meets its contract.
+use borrow.Author.Tests.{leb-true}
+use Rattle.input.proofs.Tests.{was-true}
 use borrow.Author.Needs.{needs}
-use mathlib.Core.Path.{_≡_, ap, _∙_}
-use lib.ListN.{length, length-set}
-use Prim.Native.Nat.{_-_, _≤_}
-use native.Mathlib.Omega.{arith}
-use Rattle.model.specs.Tick.{fillFrom, lanesFrom}
-use Rattle.slewing.proofs.Lanes.{fill-none, fill-more, fill-end}
 use Rattle.slewing.proofs.put_part.Statement.{statement}
 use Rattle.slewing.proofs.put_part.Tie as tie
 
-abbrev Inv-loop : tie.InvT-loop
-Inv-loop values₀ start from at n l₀ values l = (l ≤ n) × (length values ≡ length values₀) × (values ≡ fillFrom values₀ start (lanesFrom from at) l)
+fits-requires : tie.Need-fits-requires
+fits-requires c κs = search needs
 
-abbrev μ-loop : tie.MeasureT-loop
-μ-loop values₀ start from at n l₀ values l = n - l
+put-each-requires : tie.Need-put-each-requires
+put-each-requires c κs = search needs
 
-loop-holds : tie.Need-loop-holds Inv-loop μ-loop
-loop-holds c = (search needs, search needs, fill-none _ _ _)
-
-lane-from-requires : tie.Need-lane-from-requires Inv-loop μ-loop
-lane-from-requires c κs = search needs
-
-put-lane-requires : tie.Need-put-lane-requires Inv-loop μ-loop
-put-lane-requires c κs = search needs
-
-add-l : tie.Need-add-l Inv-loop μ-loop
-add-l c = search needs
-
-loop-less : tie.Need-loop-less Inv-loop μ-loop
-loop-less c = search needs
-
-loop-again : tie.Need-loop-again Inv-loop μ-loop
-loop-again c =
-    let k = c .before .before in
-    let l = k .before .before .before .before .loop in
-    let a = k .before .before .before .before .before .before .before .args in (
-      omega arith,
-      ap length (k .put-lane .ensures) ∙ simp length-set (l .inv .1),
-      fill-more (a .values .now) (a .start) (lanesFrom (a .from .now) (a .at)) (l .l) _ _ _ (l .inv .2) (k .before .lane-from .ensures) (k .put-lane .ensures),
-    )
-
-same-length : tie.Need-same-length Inv-loop μ-loop
+same-length : tie.Need-same-length
 same-length c = search needs
 
-returns : tie.Need-returns Inv-loop μ-loop
-returns c =
-    let a = c .before .before .before .before .args in
-    fill-end (a .values .now) (a .start) (lanesFrom (a .from .now) (a .at)) _ _ _ (c .before .loop .inv .2) (omega arith)
+returns : tie.Need-returns
+returns c = search needs
+
+fits-requires-2 : tie.Need-fits-requires-2
+fits-requires-2 c κs = search needs
+
+put-each-requires-2 : tie.Need-put-each-requires-2
+put-each-requires-2 c κs = search needs
+
+same-length-2 : tie.Need-same-length-2
+same-length-2 c = search needs
+
+returns-2 : tie.Need-returns-2
+returns-2 c = search needs
+
+put-whole-requires : tie.Need-put-whole-requires
+put-whole-requires c κs = (leb-true _ _ (was-true (c .before .before .before .before .fits2 .ensures) (c .before .before .before .if1 .left)), leb-true _ _ (was-true (c .before .before .fits3 .ensures) (c .before .if2 .left)))
+
+same-length-3 : tie.Need-same-length-3
+same-length-3 c = search needs
+
+returns-3 : tie.Need-returns-3
+returns-3 c = search needs
 
 pub put-part-spec : {M : Type 1} → statement M
 put-part-spec =
     tie.close
     (tie.spec
-    Inv-loop
-    μ-loop
-    loop-holds
-    lane-from-requires
-    put-lane-requires
-    add-l
-    loop-less
-    loop-again
+    fits-requires
+    put-each-requires
     same-length
-    returns)
+    returns
+    fits-requires-2
+    put-each-requires-2
+    same-length-2
+    returns-2
+    put-whole-requires
+    same-length-3
+    returns-3)

@@ -15,7 +15,7 @@ returns c = let a = c .before .before .before .before .before .before .args in
     let g = a .stage in
     let long : length (a .routes) ≡ 64 = search (needs, length-mapped) in
     λ t x st d e into same lies.
-    slews-done t x st d g (a .routes) (g .scene .stride) (g .chunks) (g .plans) (a .first) (a .values .now) [] (a .values .now) 0 (e .scene .stride) into lies (omega arith)
+    slews-done t x st d (a .routes) (g .scene .stride) (g .chunks) (g .plans) (a .first) (a .values .now) [] (a .values .now) 0 (e .scene .stride) (into .route) lies (omega arith)
     (λ j h b. none-past (a .routes) (a .first + j) long (omega arith))
     (λ j h. absurd (omega arith))
     (put-none (g .scene .stride) (g .chunks) (g .plans) (a .first) (a .routes) [] (a .values .now))
@@ -33,7 +33,7 @@ returns-2 c = let a = c .before .before .before .before .before .before .before 
     let all = sym (c .before .all-still .ensures) ∙ c .if2 .taken in
     let long : length (a .routes) ≡ 64 = search (needs, length-mapped) in
     λ t x st d e into same lies.
-    slews-done t x st d g (a .routes) (g .scene .stride) (g .chunks) (g .plans) (a .first) (a .values .now) [] (a .values .now) 0 (e .scene .stride) into lies (omega arith)
+    slews-done t x st d (a .routes) (g .scene .stride) (g .chunks) (g .plans) (a .first) (a .values .now) [] (a .values .now) 0 (e .scene .stride) (into .route) lies (omega arith)
     (λ j h b. still-all (a .routes) (a .first) (n .result) (a .count) long all (n .ensures .2) j (omega arith))
     (λ j h. absurd (omega arith))
     (put-none (g .scene .stride) (g .chunks) (g .plans) (a .first) (a .routes) [] (a .values .now))

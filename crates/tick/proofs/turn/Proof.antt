@@ -21,6 +21,12 @@ add-to c = search needs
 tick-of-requires : tie.Need-tick-of-requires
 tick-of-requires c κs = search needs
 
+room-requires : tie.Need-room-requires
+room-requires c κs = search needs
+
+slice-aggregate-held-sums : tie.Need-slice-aggregate-held-sums
+slice-aggregate-held-sums c = search needs
+
 held-sums-requires : tie.Need-held-sums-requires
 held-sums-requires c κs = search needs
 
@@ -30,8 +36,11 @@ from-row-requires c κs = search needs
 to-row-requires : tie.Need-to-row-requires
 to-row-requires c κs = search needs
 
+slice-aggregate-put-slews : tie.Need-slice-aggregate-put-slews
+slice-aggregate-put-slews c = search needs
+
 put-slews-requires : tie.Need-put-slews-requires
-put-slews-requires c κs = c .before .before .before .before .before .before .before .before .before .before .before .before .before .before .before .before .before .before .before .pre .0
+put-slews-requires c κs = c .before .before .before .before .before .before .before .before .before .before .before .before .before .before .before .before .before .before .before .before .before .before .before .pre .0
 
 put-row-requires : tie.Need-put-row-requires
 put-row-requires c κs = search needs
@@ -47,10 +56,10 @@ returns c =
     let rows = c .before .before in
     let row = rows .before .before .before .before in
     let slews = row .before .before .before .before in
-    let ends = slews .before .before in
+    let ends = slews .before .before .before in
     let starts = ends .before .before in
-    let sums = starts .before .before in
-    let tick = sums .before .before in
+    let sums = starts .before .before .before in
+    let tick = sums .before .before .before .before in
     let from = tick .before .before in
     let width = from .before in
     let o = width .before .before .before .before .before .before .before .before .before in
@@ -64,7 +73,8 @@ returns c =
     let s = ownRows (w .scene .stride) (w .chunks) (w .plans) (w .plan .first) m in
     let n = width .lane-count .ensures .0 in
     let by = ticks-of st t (a .d) w m _ _ _ _ _ of k (a .phase) (tick .tick-of .ensures) in
-    let held = row-wide _ (sums .held-sums .result) n (sums .held-sums .ensures t f s x (sums-of st t (a .d) w m _ _ _ _ _ of k)) in
+    let both = sums .held-sums .ensures t f s x (sums-of st t (a .d) w m _ _ _ _ _ of k) in
+    let held = row-wide _ (sums .held-sums .result) n (both .0) in
     turn-of st t (a .d) w m _ _ _ _ _ of k (a .phase) (width .lane-count .result) low (low + w .scene .stride) (starts .from-row .result) (ends .to-row .result) _ _ _ (o .pre .1)
     (tick .tick-of .ensures)
     n
@@ -72,7 +82,7 @@ returns c =
     refl
     (starts .from-row .ensures t x f s by held)
     (ends .to-row .ensures t x f s by held)
-    (slews .put-slews .ensures t x st (a .d) (seen-of st t (a .d) w m _ _ _ _ _ of k) (mix-is st t (a .d) w m _ _ _ _ _ of k) (lies-of st t (a .d) w m _ _ _ _ _ of k))
+    (slews .put-slews .ensures t x st (a .d) (seen-of st t (a .d) w m _ _ _ _ _ of k .scene .stride) (mix-is st t (a .d) w m _ _ _ _ _ of k) (lies-of st t (a .d) w m _ _ _ _ _ of k) (both .1))
     (row .put-row .ensures)
     (rows .put-row2 .ensures)
 
@@ -84,9 +94,12 @@ turn-spec =
     plan-from-requires
     add-to
     tick-of-requires
+    room-requires
+    slice-aggregate-held-sums
     held-sums-requires
     from-row-requires
     to-row-requires
+    slice-aggregate-put-slews
     put-slews-requires
     put-row-requires
     put-row-requires-2
