@@ -15,7 +15,7 @@ ghost use Rattle.model.specs.Env.{Env, Rows, Own, noPart, sampleIn};
 ghost use Rattle.model.specs.Lanes.{anyFrom, groupOf, inGroup, addend, inSpan};
 ghost use Rattle.model.specs.Mix.{Mix};
 ghost use Rattle.model.specs.RouteValue.{rawIn, routeValue, plain};
-ghost use Rattle.model.specs.Sums.{baseIn, offsets, allPlain, hasPlain, plainStep, plains, addLane, otherStep, others, begun, tickSum, audioBegun, audioSum};
+ghost use Rattle.model.specs.Sums.{baseIn, offsets, allPlain, hasPlain, plainStep, plains, addLane, otherStep, others, begun, audioBegun, audioSum};
 ghost use Rattle.input.specs.Lane.{laneOf};
 ghost use Rattle.input.specs.Reads.{Works, partFor, pointOf};
 ghost use Rattle.route.specs.View.{mostValues, Placed, auxPart, Viewed};
@@ -425,14 +425,6 @@ pub fn totals_of(job: Job) -> Totals
         j += 1;
     }
     out
-}
-
-// The sum of the offsets of the plain routes.
-pub fn offsets(job: Job) -> f32
-    ensures { λ r. ⌜ ((t : Env) (x : Mix) → IsJob t x job → r ≡ offsets t x (x .count)) ⌝ }
-{
-    let all = totals_of(job);
-    all.offset
 }
 
 // Whether there is a plain route.
@@ -1293,24 +1285,6 @@ pub fn tick_begun(
         return row;
     }
     plain_row(job, base + offset, row, held, globals, samples, values)
-}
-
-// The sum of a destination at a tick, in each lane of its row.
-pub fn tick_row(
-    job: Job,
-    held: &[f32],
-    globals: &[f32],
-    bases: &[f32],
-    tables: &[f32],
-    samples: &[f32],
-    values: &[f32],
-) -> [f32; VOICES]
-    requires { ⌜ Bounded job ⌝ }
-    ensures { λ r. ⌜ ((t : Env) (f : Rows) (s : Own) (x : Mix) → Sums t f s x job (now (held .entry)) (now (globals .entry)) (now (bases .entry)) (now (tables .entry)) (now (samples .entry)) (now (values .entry)) → (l : ℕ) → l < laneCount job → at r l ≡ tickSum t f s x l) ⌝ }
-{
-    let base = base_in(job, globals, bases);
-    let row = tick_begun(job, base, held, globals, samples, values);
-    add_others(job, row, held, globals, tables, samples, values)
 }
 
 // what the others are added to in audio, where `old` stands in the row
