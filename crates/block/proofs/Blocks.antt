@@ -73,10 +73,10 @@ step-ready {st} {next} k b i h h′ v v′ s s′ c eh ev es r he hi ec =
     )
 
 -- what the steps ask for
-pub steps-ready : {st next : State} → Keeps st next → (b : Block) (start end h v v′ s : ℕ) → v′ ≡ v → Room st h v s → b ≡ blockOf st start end → end ≤ frameCount st
-    → Room next h v′ s × (b .end ≤ frameCount next)
-steps-ready k b start end h v v′ s ev r eb he =
-    (record { held = omega (arith, sources-kept k, r .held); values = omega (arith, values-kept k, r .values); audio = omega (arith, audio-kept k, r .audio) }, rw eb (omega (arith, frames-kept k, he)))
+pub steps-ready : {st next : State} → Keeps st next → (b : Block) (start end h v v′ s : ℕ) → v′ ≡ v → Room st h v s → b ≡ blockOf st start end → start < end → end ≤ frameCount st
+    → Room next h v′ s × (b .start ≤ b .end) × (b .end ≤ frameCount next)
+steps-ready k b start end h v v′ s ev r eb hs he =
+    (record { held = omega (arith, sources-kept k, r .held); values = omega (arith, values-kept k, r .values); audio = omega (arith, audio-kept k, r .audio) }, rw eb (omega arith), rw eb (omega (arith, frames-kept k, he)))
 
 -- ---- open and close
 

@@ -1,3 +1,4 @@
 pub mod Room
 pub mod Scenes
 pub mod Worlds
+pub mod Moves

@@ -2,9 +2,9 @@
 // 804-1011; document 01, Chunk and value). The definitions are in model's specs/Process. A contract equates the world after the call with the definition of the
 // world before it, whatever the memories are that the function is not lent.
 ghost use mathlib.Core.Path.{_≡_};
-ghost use mathlib.Core.Bool.{cond, _&&_};
+ghost use mathlib.Core.Bool.{true, false, cond, _&&_};
 ghost use mathlib.Core.List.{List};
-ghost use Prim.Native.Nat.{_+_, _*_, _≤_, _<_, min};
+ghost use Prim.Native.Nat.{ℕ, _+_, _*_, _≤_, _<_, min};
 ghost use lib.Dec.{eqb};
 ghost use lib.ListN.{length};
 ghost use lib.Ieee.{Float};
@@ -14,14 +14,19 @@ ghost use Rattle.model.specs.Counts.{voiceCount, frameCount, strideOf, chunksMo
 ghost use Rattle.model.specs.Tick.{offPhase, tickOf};
 ghost use Rattle.model.specs.Chunks.{chunkTotal};
 ghost use Rattle.model.specs.States.{withVelocity, withKey};
-ghost use Rattle.model.specs.World.{worldOf};
+ghost use Rattle.model.specs.World.{worldOf, isVelocity, isKey};
 ghost use Rattle.model.specs.Process.{valuesOf, glided, ticked, rowed, sounded, chunkStep, chunkSteps, blockOf, noBlock};
 ghost use Rattle.input.specs.Scene.{envOf};
+ghost use Rattle.voice.specs.Notes.{advanced};
+ghost use Rattle.state.specs.declared.Signals.{Signals};
+ghost use Rattle.sound.specs.Passes.{ReadyBy, PreparedBy, Only};
+ghost use Rattle.opening.specs.Marks.{movedIf};
 ghost use Rattle.opening.specs.Codes.{countsOf, codeBy};
 ghost use Rattle.opening.specs.Draws.{drawnRoutes};
 ghost use Rattle.block.specs.Room.{Room, Keeps, audioSize};
 ghost use Rattle.block.specs.Worlds.{loadedWorld, drawnWorld, closedWorld, routelessWorld, routedWorld, runWorld};
 ghost use Rattle.block.specs.Scenes.{sceneOf, workOf, drawnOf};
+ghost use Rattle.block.specs.Moves.{movingOf, movedBy, glidesOf, wholeOf};
 use config::FRAMES;
 use config::PERIOD;
 use config::SLOTS;
@@ -31,10 +36,12 @@ use input::Scene;
 use opening::Counts;
 use opening::Lengths;
 use opening::NoteValue;
+use sound::Sweeping;
 use sound::Work;
 use state::Block;
 use state::Chunk;
 use state::Signals;
+use state::SourceMark;
 use state::State;
 use voice::Notes;
 
@@ -323,8 +330,8 @@ pub fn chunk_step(
     glided(held, next, chunk.len)
 }
 
-// The steps of a block's chunks.
-pub fn chunk_steps(
+// the steps of a block's chunks, one after the other
+fn each_step(
     state: State,
     block: Block,
     held: &mut [f32],
@@ -361,6 +368,197 @@ pub fn chunk_steps(
         i += 1;
     }
     next
+}
+
+// ---- the steps of a block whose plans all have audio and are swept
+
+// What moves there from chunk to chunk: whether the program has ticked, and the notes.
+pub struct Moving {
+    pub primed: bool,
+    pub velocity: Notes,
+    pub key: Notes,
+}
+
+// What glides go by: the marks of the sources, the lane stride, how many sources and voices.
+pub struct Glides {
+    pub mark: [SourceMark; SOURCES],
+    pub stride: usize,
+    pub sources: usize,
+    pub voices: usize,
+}
+
+// what moves, as it stands
+fn moving_of(state: State) -> Moving
+    ensures { λ r. ⌜ r ≡ movingOf state ⌝ }
+{
+    let velocity = state.velocity;
+    let key = state.key;
+    Moving {
+        primed: state.primed,
+        velocity,
+        key,
+    }
+}
+
+fn glides_of(state: State) -> Glides
+    ensures { λ r. ⌜ r ≡ glidesOf state ⌝ }
+{
+    let config = state.config;
+    let mark = state.mark;
+    let stride = config::lane_stride(config.voices);
+    let sources = opening::at_most(state.sources, SOURCES);
+    let voices = opening::at_most(config.voices, VOICES);
+    Glides {
+        mark,
+        stride,
+        sources,
+        voices,
+    }
+}
+
+// the state with what has moved
+fn moved(state: State, moving: Moving) -> State
+    ensures { λ r. ⌜ r ≡ movedBy state moving ⌝ }
+{
+    let velocity = moving.velocity;
+    let key = moving.key;
+    let mut next = state;
+    next.primed = moving.primed;
+    next.velocity = velocity;
+    next.key = key;
+    next
+}
+
+// whether the program has ticked
+fn primes(primed: bool, tick: bool) -> bool
+    ensures { λ r. ⌜ r ≡ cond tick true primed ⌝ }
+{
+    if tick {
+        return true;
+    }
+    primed
+}
+
+// the glides of a chunk
+fn glide(moving: Moving, glides: Glides, chunk: Chunk, held: &mut [f32]) -> Moving
+    requires { ⌜ (glides .sources ≤ 128) × (glides .stride ≤ 64) × (glides .voices ≤ glides .stride) × (glides .stride * glides .sources ≤ length (now held)) ⌝ }
+    ensures { λ r. ⌜ (r ≡ record { primed = cond (chunk .tick) true (moving .primed); velocity = advanced (moving .velocity) (chunk .len); key = advanced (moving .key) (chunk .len) }) × (now (held .exit) ≡ movedIf (glides .mark) isKey (glides .stride) (glides .sources) (moving .key .glide) (r .key .value) (glides .voices) (movedIf (glides .mark) isVelocity (glides .stride) (glides .sources) (moving .velocity .glide) (r .velocity .value) (glides .voices) (now (held .entry)))) ⌝ }
+{
+    let mark = glides.mark;
+    let velocity = moving.velocity;
+    let key = moving.key;
+    let velocity_next = velocity.advance(chunk.len);
+    let key_next = key.advance(chunk.len);
+    opening::moved_held(
+        held,
+        mark,
+        NoteValue::Velocity,
+        glides.stride,
+        glides.sources,
+        glides.voices,
+        velocity,
+        velocity_next,
+    );
+    opening::moved_held(
+        held,
+        mark,
+        NoteValue::Key,
+        glides.stride,
+        glides.sources,
+        glides.voices,
+        key,
+        key_next,
+    );
+    Moving {
+        primed: primes(moving.primed, chunk.tick),
+        velocity: velocity_next,
+        key: key_next,
+    }
+}
+
+// the steps of the chunks
+fn swept_steps(
+    state: State,
+    block: Block,
+    sweeping: Sweeping,
+    held: &mut [f32],
+    globals: &[f32],
+    bases: &[f32],
+    audio: &mut [f32],
+    samples: &[f32],
+) -> State
+    requires { ⌜ (strideOf state * engineSources state ≤ length (now held)) × (block .start ≤ block .end) × ReadyBy (wholeOf block) (length (now audio)) sweeping (now samples) × Only sweeping ⌝ }
+    ensures { λ r. ⌜ ((signals : Signals) (v t : List Float) → PreparedBy (workOf state (wholeOf block) false signals) (wholeOf block) sweeping (now (samples .entry)) → worldOf r (now (held .exit)) (now (globals .entry)) (now (bases .entry)) v (now (audio .exit)) t ≡ chunkSteps (now (samples .entry)) signals block (chunkTotal block) (worldOf state (now (held .entry)) (now (globals .entry)) (now (bases .entry)) v (now (audio .entry)) t)) ⌝ }
+{
+    let n = chunk::total(block);
+    let glides = glides_of(state);
+    let mut moving = moving_of(state);
+    let mut i = 0usize;
+    while i < n {
+        let c = chunk::of(block, i);
+        sound::sweep_all(audio, sweeping, c, globals, bases, samples);
+        let after = glide(moving, glides, c, held);
+        moving = after;
+        i += 1;
+    }
+    moved(state, moving)
+}
+
+// a block as one chunk
+fn whole_of(block: Block) -> Chunk
+    requires { ⌜ block .start ≤ block .end ⌝ }
+    ensures { λ r. ⌜ r ≡ wholeOf block ⌝ }
+{
+    Chunk {
+        start: block.start,
+        len: block.end - block.start,
+        phase: 0,
+        tick: false,
+    }
+}
+
+// what the plans are swept by up to the block's end
+fn sweeping_of(state: State, block: Block, signals: Signals, samples: &[f32]) -> Sweeping
+    requires { ⌜ (block .start ≤ block .end) × (block .end ≤ frameCount state) ⌝ }
+    ensures { λ r. ⌜ PreparedBy (workOf state (wholeOf block) false signals) (wholeOf block) r (now (samples .entry)) × ((n : ℕ) → audioSize state ≤ n → ReadyBy (wholeOf block) n r (now (samples .entry))) ⌝ }
+{
+    let whole = whole_of(block);
+    let work = work_of(state, whole, false, signals);
+    sound::sweeping_of(work, whole, samples)
+}
+
+// The steps of a block's chunks.
+pub fn chunk_steps(
+    state: State,
+    block: Block,
+    held: &mut [f32],
+    globals: &[f32],
+    bases: &[f32],
+    values: &mut [f32],
+    audio: &mut [f32],
+    tables: &[f32],
+    samples: &[f32],
+    signals: Signals,
+) -> State
+    requires { ⌜ Room state (length (now held)) (length (now values)) (length (now audio)) × (block .start ≤ block .end) × (block .end ≤ frameCount state) ⌝ }
+    ensures { λ r. ⌜ worldOf r (now (held .exit)) (now (globals .entry)) (now (bases .entry)) (now (values .exit)) (now (audio .exit)) (now (tables .entry)) ≡ chunkSteps (now (samples .entry)) signals block (chunkTotal block) (worldOf state (now (held .entry)) (now (globals .entry)) (now (bases .entry)) (now (values .entry)) (now (audio .entry)) (now (tables .entry))) ⌝ }
+{
+    let sweeping = sweeping_of(state, block, signals, samples);
+    if sound::only_swept(sweeping) {
+        return swept_steps(state, block, sweeping, held, globals, bases, audio, samples);
+    }
+    each_step(
+        state,
+        block,
+        held,
+        globals,
+        bases,
+        values,
+        audio,
+        tables,
+        samples,
+        signals,
+    )
 }
 
 // ---- open and close

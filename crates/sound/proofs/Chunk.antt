@@ -198,6 +198,9 @@ module _ (st : State) (w : Work) (e : Installed st w) (h g a b i : List Float) (
       ∙ ap (λ (z : ℕ). audioFrames st t c (z + k) (c .len) m) (sym (e .control))
       ∙ ap (audioFrames st t c (controlTotal (st .program) + k) (c .len)) p)
 
+  pub plans-end : (k n : ℕ) (m₀ m : Sounds) → m ≡ audioPlans st (workEnv w h g a b i) c k m₀ → k ≡ n → m ≡ audioPlans st (workEnv w h g a b i) c n m₀
+  plans-end k n m₀ m p q = p ∙ ap (λ (z : ℕ). audioPlans st (workEnv w h g a b i) c z m₀) q
+
   pub plans-done : (k : ℕ) (m₀ m : Sounds) → m ≡ audioPlans st (workEnv w h g a b i) c k m₀ → k ≡ w .plans - w .control → m ≡ audioOf st (workEnv w h g a b i) c m₀
   unfolding audioOf
   plans-done k m₀ m p q =

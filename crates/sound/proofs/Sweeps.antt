@@ -3,7 +3,7 @@ use mathlib.Core.Path.{_≡_, refl, sym, ap, ap₂, _∙_, subst}
 use mathlib.Core.Bool.{Bool, true, false, cond, _&&_, _||_}
 use mathlib.Core.List.{List}
 use Prim.Native.Nat.{ℕ, zero, suc, _+_, _-_, _*_, _≤_, _<_}
-use native.Mathlib.Nat.{le-refl}
+use native.Mathlib.Nat.{le-refl, mul-le-mul-right, add-mul}
 use native.Mathlib.Omega.{arith}
 use lib.Dec.{eqb, leb, ltb}
 use lib.ListN.{length, getD}
@@ -29,20 +29,21 @@ use Rattle.sum.specs.Job.{slotGain, baseBy}
 use Rattle.sweep.specs.declared.Field.{Field}
 use Rattle.sweep.specs.declared.Pass.{Pass}
 use Rattle.sweep.specs.declared.Leads.{Leads}
-use Rattle.sweep.specs.Leads.{Lead, Leading, offsetSum, Fielded, Swept}
+use Rattle.sweep.specs.Leads.{Lead, Leading, offsetSum, passOf, Fielded, Swept}
 use Rattle.sweep.specs.Sweep.{placeOf, swept, sweptAt, sweptRow, sweptRows, Within}
+use Rattle.sweep.proofs.Kept.{led-sooner}
 use Rattle.sweep.proofs.Plains.{slews-still, plain-by, base-is, offsets-are, plains-are, new-is, span-fill}
 use Rattle.sound.specs.declared.Sweeping.{Sweeping}
 use Rattle.sound.specs.declared.Work.{Work}
 use Rattle.sound.specs.Rows.{sounds, widthAt, rowFrame, rowFrames}
 use Rattle.sound.specs.Work.{Sized, audioRoom, Installed, workEnv}
-use Rattle.sound.specs.Passes.{passOf, Ready, Prepared, ReadyBy, PreparedBy}
+use Rattle.sound.specs.Passes.{rowPass, Ready, Prepared, ReadyBy, PreparedBy}
 use Rattle.sound.proofs.Parts.{part-within}
 use Rattle.sound.proofs.Chunk.{frames-are, plans-more}
 
 -- ---- what is read lies in the samples
 
-pub within : (q : Field) (c : Chunk) (d n : ℕ) (xs : List Float) (s p : List ℕ) (g o : List Float) (x : Plan) (base : Float) {z : Pass} → z ≡ passOf q x base o
+pub within : (q : Field) (c : Chunk) (d n : ℕ) (xs : List Float) (s p : List ℕ) (g o : List Float) (x : Plan) (base : Float) {z : Pass} → z ≡ rowPass q x base o
     → Ready q c (d + 1) n xs s p g o → Swept q x p → Within s p g xs z (c .start + c .len)
 within q c d n xs s p g o x base e r y =
     let route : (i : ℕ) → x .first ≤ i → i < x .first + x .count → 0 < getD p i 0 =
@@ -82,7 +83,7 @@ module _ (st : State) (w : Work) (e : Installed st w) (h g a b xs : List Float) 
   mix = planMix st d
 
   abbrev pass : Pass
-  pass = passOf q x (baseBy v g a (x .dest) (x .base)) o
+  pass = rowPass q x (baseBy v g a (x .dest) (x .base)) o
 
   abbrev route : ℕ → Route
   route j = getD (w .routes) (x .first + j) noRoute
@@ -110,7 +111,7 @@ module _ (st : State) (w : Work) (e : Installed st w) (h g a b xs : List Float) 
   plain-at n j k =
       let f = lead j k in
       subst (λ (r : Route). plain (env n) (mix .voice) r ≡ true) (sym (route-is j))
-      (plain-by (env n) (mix .voice) (route j) voice-is (z .field .sounds (y .on) (env n) refl refl) (f .simple) (f .rows (env n) refl refl refl))
+      (plain-by (env n) (mix .voice) (route j) voice-is (z .field .sounds (y .on) (env n) refl refl) (f .simple) (f .rows (env n) refl refl (le-refl (c .start + c .len))))
 
   gain-at : (n j : ℕ) → j < mix .count → scaledGain (env n) (mix .route j) ≡ at gs (x .first + j)
   gain-at n j k =
@@ -195,7 +196,7 @@ module _ (st : State) (w : Work) (e : Installed st w) (h g a b xs : List Float) 
 pub plans-swept : (st : State) (w : Work) (e : Installed st w) (h g a b xs : List Float) (c : Chunk) (q : Field) (plans : List Plan) (control : ℕ) (v : Gains) (s p : List ℕ) (gs o : List Float)
     → Prepared w c q plans control v xs s p gs o → (k : ℕ) (x : Plan) → x ≡ getD plans (control + k) noPlan → Swept q x p → (m : Sounds) (vs us u : List Float)
     → sounds vs us ≡ audioPlans st (workEnv w h g a b xs) c k m
-    → u ≡ sweptRows s p gs xs (passOf q x (baseBy v g a (x .dest) (x .base)) o) (audioRow (q .stride) (q .frames) (control + k) (q .stride) (c .start)) (c .start) (c .len) us
+    → u ≡ sweptRows s p gs xs (rowPass q x (baseBy v g a (x .dest) (x .base)) o) (audioRow (q .stride) (q .frames) (control + k) (q .stride) (c .start)) (c .start) (c .len) us
     → sounds vs u ≡ audioPlans st (workEnv w h g a b xs) c (k + 1) m
 plans-swept st w e h g a b xs c q plans control v s p gs o z k x is y m vs us u done here =
     plans-more st w e h g a b xs c k m (sounds vs us) (sounds vs u) done
@@ -265,20 +266,50 @@ sweeping-is w c q xs l z f k = (
 
 -- ---- what a plan is swept by
 
-abbrev passBy : Field → Plan → Float → Float → Bool → Pass
-passBy q x base z b =
+pub pass-is : (q : Field) (x : Plan) (base y : Float) (o : List Float) (b : Bool) {z : Pass} → z ≡ passOf q x y b o → y ≡ base
+    → b ≡ (lt (inf true) (x .min) || lt (x .max) (inf false)) → z ≡ rowPass q x base o
+pass-is q x base y o b e h k = e ∙ ap₂ (λ (t : Float) (i : Bool). passOf q x t i o) h k
+
+-- the plan that stands there
+pub swept-at : (q : Field) (plans : List Plan) (d : ℕ) (p : List ℕ) {x : Plan} → x ≡ getD plans d noPlan → Swept q (getD plans d noPlan) p → Swept q x p
+swept-at q plans d p e h = subst (λ (y : Plan). Swept q y p) (sym e) h
+
+pub plan-fits : (q : Field) (plans : List Plan) (d : ℕ) (p : List ℕ) (o : List Float) {x : Plan} → x ≡ getD plans d noPlan → Swept q (getD plans d noPlan) p → length o ≡ slots
+    → x .first + x .count ≤ length o
+plan-fits q plans d p o {x} e h n = let y : Swept q x p = swept-at q plans d p e h in omega (arith, n, y .routes)
+
+-- ---- up to an earlier frame
+
+pub ready-sooner : (q : Field) (c d : Chunk) (n size room : ℕ) (xs : List Float) (s p : List ℕ) (g o : List Float) → d .start + d .len ≤ c .start + c .len → room ≡ size
+    → Ready q c n size xs s p g o → Ready q d n room xs s p g o
+ready-sooner q c d n size room xs s p g o h e r =
     record {
-      begun = plus base z;
-      bound = b;
-      min = x .min;
-      max = x .max;
-      first = x .first;
-      count = x .count;
-      from = q .from;
-      groups = q .groups;
-      width = q .stride;
+      starts = r .starts;
+      steps = r .steps;
+      gains = r .gains;
+      offsets = r .offsets;
+      stride = r .stride;
+      frames = r .frames;
+      plans = r .plans;
+      end = omega (arith, r .end);
+      within = r .within;
+      wide = r .wide;
+      inside = λ i a b. omega (arith, r .inside i a b, mul-le-mul-right (getD p i 0) h);
+      room = λ i b. omega (arith, r .room i b, mul-le-mul-right (q .stride) h, add-mul (d .start) (d .len) (q .stride), add-mul (c .start) (c .len) (q .stride));
     }
 
-pub pass-is : (q : Field) (x : Plan) (base y : Float) (o : List Float) (z : Float) (b : Bool) → y ≡ base → z ≡ offsetSum o (x .first) (x .count)
-    → b ≡ (lt (inf true) (x .min) || lt (x .max) (inf false)) → passBy q x y z b ≡ passOf q x base o
-pass-is q x base y o z b h e k = ap (λ (t : Float). passBy q x t z b) h ∙ ap₂ (passBy q x base) e k
+pub prepared-sooner : (w u : Work) (c d : Chunk) (z : Sweeping) (xs : List Float) → u .plan ≡ w .plan → u .routes ≡ w .routes → u .plans ≡ w .plans → u .control ≡ w .control
+    → u .frames ≡ w .frames → u .signals ≡ w .signals → u .scene .stride ≡ w .scene .stride → u .scene .gains ≡ w .scene .gains
+    → u .scene .voices .active ≡ w .scene .voices .active → d .start + d .len ≤ c .start + c .len → PreparedBy w c z xs → PreparedBy u d z xs
+prepared-sooner w u c d z xs ep er en ec ef es et eg ea h r = (
+  r .0 ∙ ap₂ _-_ (sym en) (sym ec),
+  record {
+    plan = ep ∙ r .1 .plan;
+    control = ec ∙ r .1 .control;
+    gains = eg ∙ r .1 .gains;
+    field = rw (ea, et, ef) (r .1 .field);
+    led =
+        rw (es, et, er)
+        (led-sooner (w .signals) (z .levels) (w .scene .stride) (c .start + c .len) (d .start + d .len) xs (w .routes) (z .leads .starts) (z .leads .steps) (z .leads .gains) (z .leads .offsets) slots h (r .1 .led));
+  },
+)

@@ -6,31 +6,20 @@ use Prim.Native.Nat.{ℕ, _+_, _-_, _*_, _≤_, _<_}
 use lib.ListN.{length, getD}
 use lib.Ieee.{Float, inf, lt}
 use Rattle.config.specs.Sizes.{slots, mostFrames, lanes}
-use Rattle.number.specs.Number.{plus}
+use Rattle.filled.specs.Filled.{noPlan}
 use Rattle.state.specs.declared.Chunk.{Chunk}
 use Rattle.state.specs.declared.Gains.{Gains}
 use Rattle.state.specs.declared.Plan.{Plan}
 use Rattle.model.specs.Layout.{audioRow}
 use Rattle.sweep.specs.declared.Field.{Field}
 use Rattle.sweep.specs.declared.Pass.{Pass}
-use Rattle.sweep.specs.Leads.{Led, offsetSum, Fielded}
+use Rattle.sweep.specs.Leads.{Led, passOf, Fielded, Swept}
 use Rattle.sound.specs.declared.Sweeping.{Sweeping}
 use Rattle.sound.specs.declared.Work.{Work}
 
--- what its rows are swept by
-abbrev pub passOf : Field → Plan → Float → List Float → Pass
-passOf q x base o =
-    record {
-      begun = plus base (offsetSum o (x .first) (x .count));
-      bound = lt (inf true) (x .min) || lt (x .max) (inf false);
-      min = x .min;
-      max = x .max;
-      first = x .first;
-      count = x .count;
-      from = q .from;
-      groups = q .groups;
-      width = q .stride;
-    }
+-- what the rows of a plan are swept by: held, where the bounds hold anything
+abbrev pub rowPass : Field → Plan → Float → List Float → Pass
+rowPass q x base o = passOf q x base (lt (inf true) (x .min) || lt (x .max) (inf false)) o
 
 -- the lists are of all routes, each that moves lies in the samples, and the rows of n plans lie in `size` numbers
 pub record Ready (q : Field) (c : Chunk) (n size : ℕ) (xs : List Float) (s p : List ℕ) (g o : List Float) : Type 0 where
@@ -64,3 +53,8 @@ abbrev pub PreparedBy : Work → Chunk → Sweeping → List Float → Type 0
 PreparedBy w c z xs =
     (z .count ≡ w .plans - w .control)
     × Prepared w c (z .field) (z .plan) (z .control) (z .levels) xs (z .leads .starts) (z .leads .steps) (z .leads .gains) (z .leads .offsets)
+
+-- every plan has audio and is swept
+pub record Only (z : Sweeping) : Type 0 where
+  pub control : z .control ≡ 0
+  pub swept : (k : ℕ) → k < z .count → Swept (z .field) (getD (z .plan) (z .control + k) noPlan) (z .leads .steps)

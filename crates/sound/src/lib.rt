@@ -20,10 +20,11 @@ ghost use Rattle.model.specs.Mix.{Mix};
 ghost use Rattle.model.specs.Tick.{lanesFrom};
 ghost use Rattle.slewing.specs.Rows.{IsRow};
 ghost use Rattle.sum.specs.Job.{Bounded, laneCount, baseBy, IsScene, IsJob, Sums};
+ghost use Rattle.sweep.specs.Leads.{Swept};
 ghost use Rattle.sweep.specs.Sweep.{sweptRows, Within};
 ghost use Rattle.sound.specs.Rows.{sounds, sceneAt, jobAt, jobEnv, Of, rowFrame, rowFrames};
 ghost use Rattle.sound.specs.Work.{Sized, audioRoom, Installed, jobOf, workEnv};
-ghost use Rattle.sound.specs.Passes.{passOf, Ready, Prepared, ReadyBy, PreparedBy};
+ghost use Rattle.sound.specs.Passes.{rowPass, Ready, Prepared, ReadyBy, PreparedBy, Only};
 use config::SLOTS;
 use config::VOICES;
 use input::Scene;
@@ -380,23 +381,12 @@ fn pass_of(
     offsets: &[f32],
 ) -> Pass
     requires { ⌜ plan .first + plan .count ≤ length (now offsets) ⌝ }
-    ensures { λ r. ⌜ r ≡ passOf field plan (baseBy levels (now (globals .entry)) (now (bases .entry)) (plan .dest) (plan .base)) (now (offsets .entry)) ⌝ }
+    ensures { λ r. ⌜ r ≡ rowPass field plan (baseBy levels (now (globals .entry)) (now (bases .entry)) (plan .dest) (plan .base)) (now (offsets .entry)) ⌝ }
 {
     let kind = plan.base;
     let base = sum::base_by(kind, plan.dest, levels, globals, bases);
-    let offset = sweep::offset_sum(offsets, plan.first, plan.count);
     let bound = bounded(plan.min, plan.max);
-    Pass {
-        begun: base + offset,
-        bound,
-        min: plan.min,
-        max: plan.max,
-        first: plan.first,
-        count: plan.count,
-        from: field.from,
-        groups: field.groups,
-        width: field.stride,
-    }
+    sweep::pass_of(field, plan, base, bound, offsets)
 }
 
 // The rows of a plan in a chunk, which are a part of the audio that starts at a.
@@ -473,8 +463,8 @@ pub struct Sweeping {
     pub leads: Leads,
 }
 
-// that of the work
-fn sweeping_of(work: Work, chunk: Chunk, samples: &[f32]) -> Sweeping
+// That of the work.
+pub fn sweeping_of(work: Work, chunk: Chunk, samples: &[f32]) -> Sweeping
     requires { ⌜ Sized work chunk ⌝ }
     ensures { λ r. ⌜ PreparedBy work chunk r (now (samples .entry)) × ((n : ℕ) → audioRoom work ≤ n → ReadyBy chunk n r (now (samples .entry))) ⌝ }
 {
@@ -535,6 +525,119 @@ fn sweep_from(
         &offsets,
         samples,
     )
+}
+
+// ---- where every plan is swept
+
+// whether each of `count` plans from plan `control` on is swept
+fn each_swept(
+    field: Field,
+    plans: [Plan; SLOTS],
+    control: usize,
+    count: usize,
+    steps: &[usize],
+) -> bool
+    requires { ⌜ (length (now steps) ≡ slots) × (control + count ≤ slots) ⌝ }
+    ensures { λ r. ⌜ (r ≡ true → (k : ℕ) → k < count → Swept field (getD plans (control + k) noPlan) (now (steps .entry))) ⌝ }
+{
+    let mut k = 0usize;
+    while k < count {
+        let d = control + k;
+        let plan = plans[d];
+        if !sweep::is_swept(field, plan, steps) {
+            return false;
+        }
+        k += 1;
+    }
+    true
+}
+
+// Whether there are no control plans, and every plan is swept.
+pub fn only_swept(sweeping: Sweeping) -> bool
+    requires { ⌜ (length (sweeping .leads .steps) ≡ slots) × (sweeping .control + sweeping .count ≤ slots) ⌝ }
+    ensures { λ r. ⌜ (r ≡ true → Only sweeping) ⌝ }
+{
+    if 0 < sweeping.control {
+        return false;
+    }
+    let plans = sweeping.plan;
+    let leads = sweeping.leads;
+    let steps = leads.steps;
+    each_swept(
+        sweeping.field,
+        plans,
+        sweeping.control,
+        sweeping.count,
+        &steps,
+    )
+}
+
+// the rows of `count` plans from plan `control` on, each of which is swept
+fn sweep_each(
+    audio: &mut [f32],
+    field: Field,
+    plans: [Plan; SLOTS],
+    control: usize,
+    count: usize,
+    chunk: Chunk,
+    levels: Gains,
+    globals: &[f32],
+    bases: &[f32],
+    starts: &[usize],
+    steps: &[usize],
+    gains: &[f32],
+    offsets: &[f32],
+    samples: &[f32],
+)
+    requires { ⌜ Ready field chunk (control + count) (length (now audio)) (now samples) (now starts) (now steps) (now gains) (now offsets) × ((k : ℕ) → k < count → Swept field (getD plans (control + k) noPlan) (now steps)) ⌝ }
+    ensures { λ _. ⌜ ((st : State) (w : Work) (h b v : List Float) → Installed st w → Prepared w chunk field plans control levels (now (samples .entry)) (now (starts .entry)) (now (steps .entry)) (now (gains .entry)) (now (offsets .entry)) → sounds v (now (audio .exit)) ≡ audioPlans st (workEnv w h (now (globals .entry)) (now (bases .entry)) b (now (samples .entry))) chunk count (sounds v (now (audio .entry)))) ⌝ }
+{
+    let mut k = 0usize;
+    while k < count {
+        let d = control + k;
+        let plan = plans[d];
+        let pass = pass_of(field, plan, levels, globals, bases, offsets);
+        let a = audio_at(field.stride, field.frames, d, field.stride, chunk.start);
+        sweep_plan(audio, pass, a, chunk, starts, steps, gains, samples);
+        k += 1;
+    }
+}
+
+// The rows of a chunk where every plan is swept.
+pub fn sweep_all(
+    audio: &mut [f32],
+    sweeping: Sweeping,
+    chunk: Chunk,
+    globals: &[f32],
+    bases: &[f32],
+    samples: &[f32],
+)
+    requires { ⌜ ReadyBy chunk (length (now audio)) sweeping (now samples) × Only sweeping ⌝ }
+    ensures { λ _. ⌜ ((st : State) (w : Work) (h b v : List Float) → Installed st w → PreparedBy w chunk sweeping (now (samples .entry)) → sounds v (now (audio .exit)) ≡ audioOf st (workEnv w h (now (globals .entry)) (now (bases .entry)) b (now (samples .entry))) chunk (sounds v (now (audio .entry)))) ⌝ }
+{
+    let plans = sweeping.plan;
+    let levels = sweeping.levels;
+    let leads = sweeping.leads;
+    let starts = leads.starts;
+    let steps = leads.steps;
+    let gains = leads.gains;
+    let offsets = leads.offsets;
+    sweep_each(
+        audio,
+        sweeping.field,
+        plans,
+        sweeping.control,
+        sweeping.count,
+        chunk,
+        levels,
+        globals,
+        bases,
+        &starts,
+        &steps,
+        &gains,
+        &offsets,
+        samples,
+    );
 }
 
 // The rows of the plans that have audio, and their slews: those that are swept together, then the one that is not.

@@ -4,7 +4,7 @@ use mathlib.Core.Bool.{Bool, true, false, cond, _&&_}
 use mathlib.Core.Logic.{⊎-elim}
 use mathlib.Core.List.{List}
 use Prim.Native.Nat.{ℕ, _+_, _-_, _*_, _/_, _≤_, _<_}
-use native.Mathlib.Nat.{eq-or-lt-of-le, le-of-suc-le-suc, eq-zero-or-pos}
+use native.Mathlib.Nat.{eq-or-lt-of-le, le-of-suc-le-suc, eq-zero-or-pos, mul-le-mul-right}
 use native.Mathlib.Numerals.{add-one}
 use native.Mathlib.Omega.{arith}
 use borrow.Author.Tests.{lt-ltb, le-leb}
@@ -18,6 +18,7 @@ use Rattle.number.specs.Number.{zero32, plus, times}
 use Rattle.list.proofs.Rows.{row-inside}
 use Rattle.filled.specs.Filled.{noRoute}
 use Rattle.state.specs.declared.Gains.{Gains}
+use Rattle.state.specs.declared.Plan.{Plan}
 use Rattle.state.specs.declared.Read.{Read}
 use Rattle.state.specs.declared.Read.the-variants as D
 use Rattle.state.specs.declared.Route.{Route}
@@ -28,7 +29,9 @@ use Rattle.model.specs.Env.{Env, Rows, noPart, partOf, partStride, sampleIn}
 use Rattle.model.specs.Input.{readIn}
 use Rattle.model.specs.Lanes.{inSpan, sounding}
 use Rattle.model.specs.RouteValue.{rowed}
-use Rattle.sweep.specs.Leads.{rowKey, Moves, Lead, Led, offsetSum, Fielded}
+use Rattle.sweep.specs.declared.Field.{Field}
+use Rattle.sweep.specs.declared.Pass.{Pass}
+use Rattle.sweep.specs.Leads.{rowKey, Moves, Lead, Led, offsetSum, passOf, Fielded}
 
 -- ---- tests
 
@@ -57,6 +60,13 @@ module _ (o : List Float) (first : ℕ) where
 
   pub offset-end : (j k : ℕ) (a : Float) → a ≡ offsetSum o first j → j ≡ k → a ≡ offsetSum o first k
   offset-end j k a e h = e ∙ ap (offsetSum o first) h
+
+-- what a plan is swept by, once its offsets are added
+pub pass-is : (q : Field) (x : Plan) (base : Float) (bound : Bool) (o : List Float) (z : Float) → z ≡ offsetSum o (x .first) (x .count)
+    → record { begun = plus base z; bound = bound; min = x .min; max = x .max; first = x .first; count = x .count; from = q .from; groups = q .groups; width = q .stride }
+    ≡ passOf q x base bound o
+pass-is q x base bound o z e =
+    ap (λ (y : Float). record { begun = plus base y; bound = bound; min = x .min; max = x .max; first = x .first; count = x .count; from = q .from; groups = q .groups; width = q .stride }) e
 
 -- ---- a route
 
@@ -111,14 +121,15 @@ module _ (routes : List Route) (parts : List SignalPart) (amount output : List F
 
 -- ---- what the model reads
 
-rows-are : (t : Env) (z : Signals) (stride end len p : ℕ) (read : Read) → t .stride ≡ stride → t .signals ≡ z → t .upTo ≡ end → rowKey read < mostSources
+rows-are : (t : Env) (z : Signals) (stride end len p : ℕ) (read : Read) → t .stride ≡ stride → t .signals ≡ z → t .upTo ≤ end → rowKey read < mostSources
     → Moves (getD (z .part) (rowKey read) noPart) stride end len p → rowed t read ≡ true
 unfolding partOf
 rows-are t z stride end len p (D.Signal src true) hs hz hu b m =
     let q : SignalPart = getD (z .part) src noPart in
     let wide : stride ≤ partStride q = subst (λ (n : ℕ). stride ≤ n) (m .step) (m .wide) in
     let all : end * partStride q ≤ q .len = subst (λ (n : ℕ). end * n ≤ q .len) (m .step) (m .part) in
-    rw (hz, hs, hu, lt-ltb 0 (q .len) (m .some), le-leb stride (partStride q) wide, le-leb (end * partStride q) (q .len) all)
+    let some : t .upTo * partStride q ≤ q .len = omega (arith, all, mul-le-mul-right (partStride q) hu) in
+    rw (hz, hs, lt-ltb 0 (q .len) (m .some), le-leb stride (partStride q) wide, le-leb (t .upTo * partStride q) (q .len) some)
 rows-are t z stride end len p (D.Signal src false) hs hz hu b m = absurd (omega arith)
 rows-are t z stride end len p (D.Held src voice) hs hz hu b m = absurd (omega arith)
 rows-are t z stride end len p (D.Fed e voice) hs hz hu b m = absurd (omega arith)
@@ -165,6 +176,24 @@ pub led-all : (z : Signals) (v : Gains) (stride end : ℕ) (xs : List Float) (ro
     → KeptAll routes (z .part) (v .amount) (v .output) stride end (length xs) s p g o n → Led z v stride end xs routes s p g o n
 led-all z v stride end xs routes s p g o n all i b h =
     lead-is z v stride end xs (getD routes i noRoute) (getD s i 0) (getD p i 0) (at g i) (at o i) (all i b h)
+
+-- up to an earlier frame
+lead-sooner : (z : Signals) (v : Gains) (stride end sooner : ℕ) (xs : List Float) (r : Route) (s p : ℕ) (g o : Float) → sooner ≤ end → Lead z v stride end xs r s p g o → Lead z v stride sooner xs r s p g o
+lead-sooner z v stride end sooner xs r s p g o h l =
+    record {
+      simple = l .simple;
+      rows = λ t hs hz hu. l .rows t hs hz (omega arith);
+      reads = λ t f u i hz hx b k. l .reads t f u i hz hx (omega arith) k;
+      wide = l .wide;
+      inside = omega (arith, l .inside, mul-le-mul-right p h);
+      gain = l .gain;
+      offset = l .offset;
+    }
+
+pub led-sooner : (z : Signals) (v : Gains) (stride end sooner : ℕ) (xs : List Float) (routes : List Route) (s p : List ℕ) (g o : List Float) (n : ℕ) → sooner ≤ end
+    → Led z v stride end xs routes s p g o n → Led z v stride sooner xs routes s p g o n
+led-sooner z v stride end sooner xs routes s p g o n h all i b k =
+    lead-sooner z v stride end sooner xs (getD routes i noRoute) (getD s i 0) (getD p i 0) (at g i) (at o i) h (all i b k)
 
 -- ---- the field
 

@@ -1,6 +1,7 @@
 -- Sixteen lanes at a time make a row, and rows the rows of a chunk. Assumes nothing.
 use mathlib.Core.Path.{_≡_, refl, sym, ap, ap₂, _∙_}
 use mathlib.Core.Bool.{Bool, true, false, cond, _||_}
+use mathlib.Core.Logic.{inr}
 use mathlib.Core.List.{List}
 use Prim.Native.Nat.{ℕ, zero, suc, _+_, _*_, _≤_, _<_}
 use native.Mathlib.Nat.{add-mul, mul-le-mul-right, mul-le-mul-left}
@@ -14,9 +15,9 @@ use Rattle.list.proofs.Rows.{row-inside}
 use Rattle.model.specs.Counts.{at}
 use Rattle.model.specs.RouteValue.{isZero}
 use Rattle.model.specs.Tick.{fillFrom}
-use Rattle.model.proofs.FillFrom.{fill-same, fill-length}
+use Rattle.model.proofs.FillFrom.{fill-same, fill-length, fill-outside}
 use Rattle.sweep.specs.declared.Pass.{Pass}
-use Rattle.sweep.specs.Sweep.{sweptStep, placeOf, swept, heldBy, sweptAt, sweptRow, sweptRows, Within}
+use Rattle.sweep.specs.Sweep.{sweptStep, placeOf, swept, startAt, heldBy, sweptRow, sweptRows, someRow, someRows, Within}
 
 -- ---- numbers
 
@@ -85,49 +86,70 @@ fill-append m a f n (suc k) =
     let more : suc (n + k) ≡ n + suc k = omega arith in
     ap₂ (λ (z : List Float) (i : ℕ). set z i (f (n + k))) (fill-append m a f n k) e ∙ ap (fillFrom m a f) more
 
-module _ (s p : List ℕ) (g xs : List Float) (q : Pass) (k a : ℕ) where
-  abbrev lane : ℕ → Float
-  lane l = sweptAt s p g xs q k l
+module _ (over : Bool) (s p : List ℕ) (g xs : List Float) (q : Pass) (k a : ℕ) where
+  -- lane l of the row, over the numbers of m
+  abbrev pub someLane : List Float → ℕ → Float
+  someLane m l = heldBy q (swept s p g xs (q .first) k (q .from + l) (startAt over (q .begun) m (a + q .from + l)) (q .count))
 
-  pub group-done : (m r : List Float) (l : ℕ) (acc row : List Float) → ((i : ℕ) → i < lanes → at acc i ≡ swept s p g xs (q .first) k (l + i) (q .begun) (q .count))
-      → ((i : ℕ) → i < lanes → at row i ≡ heldBy q (at acc i)) → r ≡ fillFrom m (a + l) (at row) lanes → r ≡ fillFrom m (a + l) (λ i. lane (l + i)) lanes
-  group-done m r l acc row e f h =
-      h ∙ fill-same m (a + l) (at row) (λ i. lane (l + i)) lanes (λ i b. f i b ∙ ap (heldBy q) (e i b))
+  pub group-done : (m r : List Float) (l : ℕ) (old acc row : List Float) → ((i : ℕ) → i < lanes → at old i ≡ startAt over (q .begun) m (a + l + i))
+      → ((i : ℕ) → i < lanes → at acc i ≡ swept s p g xs (q .first) k (l + i) (at old i) (q .count)) → ((i : ℕ) → i < lanes → at row i ≡ heldBy q (at acc i))
+      → r ≡ fillFrom m (a + l) (at row) lanes → r ≡ fillFrom m (a + l) (λ i. heldBy q (swept s p g xs (q .first) k (l + i) (startAt over (q .begun) m (a + l + i)) (q .count))) lanes
+  group-done m r l old acc row o e f h =
+      h
+      ∙ fill-same m (a + l) (at row) (λ i. heldBy q (swept s p g xs (q .first) k (l + i) (startAt over (q .begun) m (a + l + i)) (q .count))) lanes
+      (λ i b. f i b ∙ ap (heldBy q) (e i b ∙ ap (λ (y : Float). swept s p g xs (q .first) k (l + i) y (q .count)) (o i b)))
 
-  pub groups-none : (m : List Float) → m ≡ fillFrom m (a + q .from) (λ l. lane (q .from + l)) (0 * lanes)
+  pub groups-none : (m : List Float) → m ≡ fillFrom m (a + q .from) (someLane m) (0 * lanes)
   unfolding fillFrom
   groups-none m = refl
 
-  pub groups-more : (m n r : List Float) (i l : ℕ) → n ≡ fillFrom m (a + q .from) (λ l. lane (q .from + l)) (i * lanes) → l ≡ q .from + i * lanes
-      → r ≡ fillFrom n (a + l) (λ j. lane (l + j)) lanes → r ≡ fillFrom m (a + q .from) (λ l. lane (q .from + l)) ((i + 1) * lanes)
+  pub groups-more : (m n r : List Float) (i l : ℕ) → n ≡ fillFrom m (a + q .from) (someLane m) (i * lanes) → l ≡ q .from + i * lanes
+      → r ≡ fillFrom n (a + l) (λ j. heldBy q (swept s p g xs (q .first) k (l + j) (startAt over (q .begun) n (a + l + j)) (q .count))) lanes
+      → r ≡ fillFrom m (a + q .from) (someLane m) ((i + 1) * lanes)
   groups-more m n r i l e h z =
       let b : ℕ = a + q .from in
-      let f : ℕ → Float = λ l. lane (q .from + l) in
       let place : a + l ≡ b + i * lanes = omega arith in
       let all : i * lanes + lanes ≡ (i + 1) * lanes = omega arith in
       z
-      ∙ ap₂ (λ (y : List Float) (c : ℕ). fillFrom y c (λ j. lane (l + j)) lanes) e place
-      ∙ fill-same (fillFrom m b f (i * lanes)) (b + i * lanes) (λ j. lane (l + j)) (λ j. f (i * lanes + j)) lanes
-      (λ j c. let same : l + j ≡ q .from + (i * lanes + j) = omega arith in ap lane same)
-      ∙ fill-append m b f (i * lanes) lanes
-      ∙ ap (fillFrom m b f) all
+      ∙ fill-same n (a + l) (λ j. heldBy q (swept s p g xs (q .first) k (l + j) (startAt over (q .begun) n (a + l + j)) (q .count))) (λ j. someLane m (i * lanes + j)) lanes
+      (λ j c.
+      let same : l + j ≡ q .from + (i * lanes + j) = omega arith in
+      let there : a + l + j ≡ b + (i * lanes + j) = omega arith in
+      let old : at n (a + l + j) ≡ at m (b + (i * lanes + j)) =
+      ap (λ (y : List Float). at y (a + l + j)) e ∙ fill-outside m b (someLane m) (i * lanes) (a + l + j) (inr (omega arith)) ∙ ap (at m) there in
+      ap₂ (λ (u : ℕ) (y : Float). heldBy q (swept s p g xs (q .first) k u (cond over y (q .begun)) (q .count))) same old)
+      ∙ ap₂ (λ (y : List Float) (c : ℕ). fillFrom y c (λ j. someLane m (i * lanes + j)) lanes) e place
+      ∙ fill-append m b (someLane m) (i * lanes) lanes
+      ∙ ap (fillFrom m b (someLane m)) all
 
-  pub groups-end : (m n : List Float) (i : ℕ) → n ≡ fillFrom m (a + q .from) (λ l. lane (q .from + l)) (i * lanes) → i ≡ q .groups → n ≡ sweptRow s p g xs q a k m
-  unfolding sweptRow
-  groups-end m n i e h = e ∙ ap (λ (z : ℕ). fillFrom m (a + q .from) (λ l. lane (q .from + l)) (z * lanes)) h
+  pub groups-end : (m n : List Float) (i : ℕ) → n ≡ fillFrom m (a + q .from) (someLane m) (i * lanes) → i ≡ q .groups → n ≡ someRow over s p g xs q a k m
+  unfolding someRow
+  groups-end m n i e h = e ∙ ap (λ (z : ℕ). fillFrom m (a + q .from) (someLane m) (z * lanes)) h
 
   -- ---- rows
 
-  pub rows-none : (m : List Float) → m ≡ sweptRows s p g xs q a k 0 m
-  unfolding sweptRows
+  pub rows-none : (m : List Float) → m ≡ someRows over s p g xs q a k 0 m
+  unfolding someRows
   rows-none m = refl
 
-  pub rows-more : (m n r : List Float) (i b : ℕ) → n ≡ sweptRows s p g xs q a k i m → b ≡ a + i * q .width → r ≡ sweptRow s p g xs q b (k + i) n → r ≡ sweptRows s p g xs q a k (i + 1) m
-  unfolding sweptRows
+  pub rows-more : (m n r : List Float) (i b : ℕ) → n ≡ someRows over s p g xs q a k i m → b ≡ a + i * q .width → r ≡ someRow over s p g xs q b (k + i) n
+      → r ≡ someRows over s p g xs q a k (i + 1) m
+  unfolding someRows
   rows-more m n r i b e h z = rw (add-one, ← h, ← e) z
 
-  pub rows-end : (m n : List Float) (i l : ℕ) → n ≡ sweptRows s p g xs q a k i m → i ≡ l → n ≡ sweptRows s p g xs q a k l m
-  rows-end m n i l e h = e ∙ ap (λ (z : ℕ). sweptRows s p g xs q a k z m) h
+  pub rows-end : (m n : List Float) (i l : ℕ) → n ≡ someRows over s p g xs q a k i m → i ≡ l → n ≡ someRows over s p g xs q a k l m
+  rows-end m n i l e h = e ∙ ap (λ (z : ℕ). someRows over s p g xs q a k z m) h
+
+module _ (s p : List ℕ) (g xs : List Float) (q : Pass) (k a : ℕ) where
+  -- over what the routes are added to
+  pub row-anew : (m : List Float) → someRow false s p g xs q a k m ≡ sweptRow s p g xs q a k m
+  unfolding someRow sweptRow
+  row-anew m = refl
+
+  pub rows-anew : (n : ℕ) (m : List Float) → someRows false s p g xs q a k n m ≡ sweptRows s p g xs q a k n m
+  unfolding someRows sweptRows someRow sweptRow
+  rows-anew zero m = refl
+  rows-anew (suc n) m = ap (sweptRow s p g xs q (a + n * q .width) (k + n)) (rows-anew n m)
 
 -- ---- a gain
 

@@ -24,6 +24,7 @@ use Rattle.model.specs.RouteValue.{rowed}
 use Rattle.sum.specs.Job.{slotGain}
 use Rattle.sweep.specs.declared.Field.{Field}
 use Rattle.sweep.specs.declared.Leads.{Leads}
+use Rattle.sweep.specs.declared.Pass.{Pass}
 
 -- the source whose signal is read lane by lane; where none is, the number after the last
 abbrev pub rowKey : Read → ℕ
@@ -44,7 +45,7 @@ pub record Moves (q : SignalPart) (stride end len p : ℕ) : Type 0 where
 -- r is swept up to frame `end`: the numbers that it reads start at s and move by p, its scaled gain is g, and its offset times its gain is o
 pub record Lead (z : Signals) (v : Gains) (stride end : ℕ) (xs : List Float) (r : Route) (s p : ℕ) (g o : Float) : Type 0 where
   pub simple : r .simple ≡ true
-  pub rows : (t : Env) → t .stride ≡ stride → t .signals ≡ z → t .upTo ≡ end → rowed t (r .source .read) ≡ true
+  pub rows : (t : Env) → t .stride ≡ stride → t .signals ≡ z → t .upTo ≤ end → rowed t (r .source .read) ≡ true
   pub reads : (t : Env) (f : Rows) (u : Float) (l : ℕ) → t .signals ≡ z → t .samples ≡ xs → t .frame < end → l < stride
       → readIn t f u l (r .source .read) ≡ at xs (s + (t .frame * p + l))
   pub wide : stride ≤ p
@@ -69,6 +70,21 @@ pub record Leading (z : Signals) (v : Gains) (stride end : ℕ) (xs : List Float
 unfoldable pub offsetSum : List Float → ℕ → ℕ → Float
 offsetSum o first zero = zero32
 offsetSum o first (suc k) = plus (offsetSum o first k) (at o (first + k))
+
+-- what the rows of a plan with that base are swept by, held where `bound`; o: the offsets of all routes
+abbrev pub passOf : Field → Plan → Float → Bool → List Float → Pass
+passOf q x base bound o =
+    record {
+      begun = plus base (offsetSum o (x .first) (x .count));
+      bound = bound;
+      min = x .min;
+      max = x .max;
+      first = x .first;
+      count = x .count;
+      from = q .from;
+      groups = q .groups;
+      width = q .stride;
+    }
 
 -- where it is on, a voice is active, and its lanes are the active span
 pub record Fielded (active : List Bool) (n f : ℕ) (q : Field) : Type 0 where

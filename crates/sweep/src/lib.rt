@@ -1,16 +1,17 @@
-// Plain routes added over the rows of a chunk, 16 lanes at a time: the sums of a group stay together over all routes, and are stored once (engine.rs 951-1006,
+// Plain routes added over the rows of a chunk, 16 lanes at a time: the sums of a group stay together over the first routes, then over four more at a time (engine.rs 951-1006,
 // 1013-1036, 1056-1183; document 01, Chunk and value). What the rows become is defined in specs/Sweep; which routes and plans are swept, and by what, in specs/Leads.
 ghost use mathlib.Core.Path.{_≡_};
-ghost use Prim.Native.Nat.{ℕ, _+_, _*_, _/_, _≤_, _<_};
+ghost use Prim.Native.Nat.{ℕ, _+_, _-_, _*_, _/_, _≤_, _<_};
 ghost use mathlib.Core.Bool.{true, false, cond};
+ghost use lib.Dec.{eqb};
 ghost use lib.ListN.{length, getD};
 ghost use lib.Ieee.{isNan};
 ghost use Rattle.config.specs.Sizes.{slots, mostSources, mostFrames, lanes};
 ghost use Rattle.number.specs.Number.{plus, times, min32, hold};
 ghost use Rattle.model.specs.Counts.{at};
 ghost use Rattle.model.specs.Tick.{fillFrom};
-ghost use Rattle.sweep.specs.Sweep.{sweptStep, swept, heldBy, sweptAt, sweptRow, sweptRows, Within};
-ghost use Rattle.sweep.specs.Leads.{rowKey, Moves, Leading, offsetSum, Fielded, Swept};
+ghost use Rattle.sweep.specs.Sweep.{sweptStep, swept, startAt, heldBy, sweptRow, sweptRows, someRow, someRows, Within, headOf, afterOf, fourOf, levelsOf, furtherOf, placesAt, UpTo, fourAt};
+ghost use Rattle.sweep.specs.Leads.{rowKey, Moves, Leading, offsetSum, passOf, Fielded, Swept};
 use config::LANES;
 use config::SIGNAL_STRIDE;
 use config::SLOTS;
@@ -127,6 +128,7 @@ fn place(start: usize, step: usize, frame: usize, lane: usize) -> usize
 
 // the routes added in sixteen lanes from `lane` on
 fn added(
+    acc: [f32; LANES],
     pass: Pass,
     starts: &[usize],
     steps: &[usize],
@@ -136,11 +138,11 @@ fn added(
     lane: usize,
 ) -> [f32; LANES]
     requires { ⌜ Within (now starts) (now steps) (now gains) (now samples) pass (frame + 1) × (lane + lanes ≤ pass .width) ⌝ }
-    ensures { λ r. ⌜ ((l : ℕ) → l < lanes → at r l ≡ swept (now (starts .entry)) (now (steps .entry)) (now (gains .entry)) (now (samples .entry)) (pass .first) frame (lane + l) (pass .begun) (pass .count)) ⌝ }
+    ensures { λ r. ⌜ ((l : ℕ) → l < lanes → at r l ≡ swept (now (starts .entry)) (now (steps .entry)) (now (gains .entry)) (now (samples .entry)) (pass .first) frame (lane + l) (at acc l) (pass .count)) ⌝ }
 {
     let first = pass.first;
     let count = pass.count;
-    let mut out = [pass.begun; LANES];
+    let mut out = acc;
     let mut j = 0usize;
     while j < count {
         let i = first + j;
@@ -155,9 +157,33 @@ fn added(
 
 // ---- rows
 
+// the sixteen numbers from p on
+fn sixteen(xs: &[f32], p: usize) -> [f32; LANES]
+    requires { ⌜ p + lanes ≤ length (now xs) ⌝ }
+    ensures { λ r. ⌜ ((l : ℕ) → l < lanes → at r l ≡ at (now (xs .entry)) (p + l)) ⌝ }
+{
+    let mut out = [0.0f32; LANES];
+    for l in 0..16 {
+        out[l] = xs[p + l];
+    }
+    out
+}
+
+// what the routes are added to in sixteen lanes: what stands there, or x
+fn begin(audio: &[f32], over: bool, start: usize, x: f32) -> [f32; LANES]
+    requires { ⌜ start + lanes ≤ length (now audio) ⌝ }
+    ensures { λ r. ⌜ ((l : ℕ) → l < lanes → at r l ≡ startAt over x (now (audio .entry)) (start + l)) ⌝ }
+{
+    if over {
+        return sixteen(audio, start);
+    }
+    [x; LANES]
+}
+
 // sixteen lanes from `lane` on of the row that starts there
 fn group(
     audio: &mut [f32],
+    over: bool,
     pass: Pass,
     starts: &[usize],
     steps: &[usize],
@@ -168,11 +194,48 @@ fn group(
     lane: usize,
 )
     requires { ⌜ Within (now starts) (now steps) (now gains) (now samples) pass (frame + 1) × (lane + lanes ≤ pass .width) × (start + pass .width ≤ length (now audio)) ⌝ }
-    ensures { λ _. ⌜ now (audio .exit) ≡ fillFrom (now (audio .entry)) (start + lane) (λ (l : ℕ). sweptAt (now (starts .entry)) (now (steps .entry)) (now (gains .entry)) (now (samples .entry)) pass frame (lane + l)) lanes ⌝ }
+    ensures { λ _. ⌜ now (audio .exit) ≡ fillFrom (now (audio .entry)) (start + lane) (λ (l : ℕ). heldBy pass (swept (now (starts .entry)) (now (steps .entry)) (now (gains .entry)) (now (samples .entry)) (pass .first) frame (lane + l) (startAt over (pass .begun) (now (audio .entry)) (start + lane + l)) (pass .count))) lanes ⌝ }
 {
-    let acc = added(pass, starts, steps, gains, samples, frame, lane);
+    let old = begin(audio, over, start + lane, pass.begun);
+    let acc = added(old, pass, starts, steps, gains, samples, frame, lane);
     let row = bounds(acc, pass);
     put(audio, start + lane, row);
+}
+
+// the lanes of the span in the row that starts there, over what stands there or over what the routes are added to
+fn some_row(
+    audio: &mut [f32],
+    over: bool,
+    pass: Pass,
+    starts: &[usize],
+    steps: &[usize],
+    gains: &[f32],
+    samples: &[f32],
+    frame: usize,
+    start: usize,
+)
+    requires { ⌜ Within (now starts) (now steps) (now gains) (now samples) pass (frame + 1) × (start + pass .width ≤ length (now audio)) ⌝ }
+    ensures { λ _. ⌜ now (audio .exit) ≡ someRow over (now (starts .entry)) (now (steps .entry)) (now (gains .entry)) (now (samples .entry)) pass start frame (now (audio .entry)) ⌝ }
+{
+    let from = pass.from;
+    let groups = pass.groups;
+    let mut g = 0usize;
+    while g < groups {
+        let lane = from + g * 16;
+        group(
+            audio,
+            over,
+            pass,
+            starts,
+            steps,
+            gains,
+            samples,
+            frame,
+            start,
+            lane,
+        );
+        g += 1;
+    }
 }
 
 // The lanes of the span in the row that starts there.
@@ -189,24 +252,270 @@ pub fn span_row(
     requires { ⌜ Within (now starts) (now steps) (now gains) (now samples) pass (frame + 1) × (start + pass .width ≤ length (now audio)) ⌝ }
     ensures { λ _. ⌜ now (audio .exit) ≡ sweptRow (now (starts .entry)) (now (steps .entry)) (now (gains .entry)) (now (samples .entry)) pass start frame (now (audio .entry)) ⌝ }
 {
-    let from = pass.from;
-    let groups = pass.groups;
-    let mut g = 0usize;
-    while g < groups {
-        let lane = from + g * 16;
-        group(
+    some_row(
+        audio,
+        false,
+        pass,
+        starts,
+        steps,
+        gains,
+        samples,
+        frame,
+        start,
+    );
+}
+
+// the same over the rows of `len` frames
+fn some_rows(
+    audio: &mut [f32],
+    over: bool,
+    pass: Pass,
+    starts: &[usize],
+    steps: &[usize],
+    gains: &[f32],
+    samples: &[f32],
+    frame: usize,
+    len: usize,
+)
+    requires { ⌜ Within (now starts) (now steps) (now gains) (now samples) pass (frame + len) × (len * pass .width ≤ length (now audio)) ⌝ }
+    ensures { λ _. ⌜ now (audio .exit) ≡ someRows over (now (starts .entry)) (now (steps .entry)) (now (gains .entry)) (now (samples .entry)) pass 0 frame len (now (audio .entry)) ⌝ }
+{
+    let width = pass.width;
+    let mut n = 0usize;
+    while n < len {
+        let at = n * width;
+        some_row(
             audio,
+            over,
             pass,
             starts,
             steps,
             gains,
             samples,
-            frame,
-            start,
-            lane,
+            frame + n,
+            at,
         );
-        g += 1;
+        n += 1;
     }
+}
+
+// ---- four routes more
+
+// Where the numbers of four routes stand.
+pub struct Places {
+    pub a: usize,
+    pub b: usize,
+    pub c: usize,
+    pub d: usize,
+}
+
+// The gains of four routes.
+pub struct Levels {
+    pub a: f32,
+    pub b: f32,
+    pub c: f32,
+    pub d: f32,
+}
+
+// four routes added
+fn four(acc: [f32; LANES], xs: &[f32], p: Places, g: Levels) -> [f32; LANES]
+    requires { ⌜ UpTo (furtherOf p lanes) (length (now xs)) ⌝ }
+    ensures { λ r. ⌜ ((l : ℕ) → l < lanes → at r l ≡ fourAt (now (xs .entry)) p g l (at acc l)) ⌝ }
+{
+    let a = step(acc, xs, p.a, g.a);
+    let b = step(a, xs, p.b, g.b);
+    let c = step(b, xs, p.c, g.c);
+    step(c, xs, p.d, g.d)
+}
+
+// four routes added to sixteen lanes from `start` on
+fn four_group(audio: &mut [f32], start: usize, xs: &[f32], p: Places, g: Levels)
+    requires { ⌜ UpTo (furtherOf p lanes) (length (now xs)) × (start + lanes ≤ length (now audio)) ⌝ }
+    ensures { λ _. ⌜ now (audio .exit) ≡ fillFrom (now (audio .entry)) start (λ (l : ℕ). fourAt (now (xs .entry)) p g l (at (now (audio .entry)) (start + l))) lanes ⌝ }
+{
+    let old = sixteen(audio, start);
+    let acc = four(old, xs, p, g);
+    put(audio, start, acc);
+}
+
+// each place n further
+fn further(p: Places, n: usize) -> Places
+    requires { ⌜ UpTo (furtherOf p n) 18446744073709551615 ⌝ }
+    ensures { λ r. ⌜ r ≡ furtherOf p n ⌝ }
+{
+    Places {
+        a: p.a + n,
+        b: p.b + n,
+        c: p.c + n,
+        d: p.d + n,
+    }
+}
+
+// four routes added to the lanes of so many groups, of which the first stands at `start`
+fn four_row(audio: &mut [f32], start: usize, groups: usize, xs: &[f32], p: Places, g: Levels)
+    requires { ⌜ UpTo (furtherOf p (groups * lanes)) (length (now xs)) × (start + (groups * lanes) ≤ length (now audio)) ⌝ }
+    ensures { λ _. ⌜ now (audio .exit) ≡ fillFrom (now (audio .entry)) start (λ (l : ℕ). fourAt (now (xs .entry)) p g l (at (now (audio .entry)) (start + l))) (groups * lanes) ⌝ }
+{
+    let mut k = 0usize;
+    while k < groups {
+        let o = k * 16;
+        let q = further(p, o);
+        four_group(audio, start + o, xs, q, g);
+        k += 1;
+    }
+}
+
+// where the numbers of four routes stand that start at s and move by t a frame
+fn places_at(s: Places, t: Places, frame: usize, lane: usize) -> Places
+    requires { ⌜ UpTo (placesAt s t frame lane) 18446744073709551615 ⌝ }
+    ensures { λ r. ⌜ r ≡ placesAt s t frame lane ⌝ }
+{
+    Places {
+        a: place(s.a, t.a, frame, lane),
+        b: place(s.b, t.b, frame, lane),
+        c: place(s.c, t.c, frame, lane),
+        d: place(s.d, t.d, frame, lane),
+    }
+}
+
+// the four numbers from i on
+fn four_of(xs: &[usize], i: usize) -> Places
+    requires { ⌜ i + 4 ≤ length (now xs) ⌝ }
+    ensures { λ r. ⌜ r ≡ fourOf (now (xs .entry)) i ⌝ }
+{
+    Places {
+        a: xs[i],
+        b: xs[i + 1],
+        c: xs[i + 2],
+        d: xs[i + 3],
+    }
+}
+
+// the four gains from i on
+fn levels_of(gains: &[f32], i: usize) -> Levels
+    requires { ⌜ i + 4 ≤ length (now gains) ⌝ }
+    ensures { λ r. ⌜ r ≡ levelsOf (now (gains .entry)) i ⌝ }
+{
+    Levels {
+        a: gains[i],
+        b: gains[i + 1],
+        c: gains[i + 2],
+        d: gains[i + 3],
+    }
+}
+
+// four routes added over the rows of `len` frames
+fn four_rows(
+    audio: &mut [f32],
+    pass: Pass,
+    starts: &[usize],
+    steps: &[usize],
+    gains: &[f32],
+    samples: &[f32],
+    frame: usize,
+    len: usize,
+)
+    requires { ⌜ Within (now starts) (now steps) (now gains) (now samples) pass (frame + len) × (pass .count ≡ 4) × (len * pass .width ≤ length (now audio)) × (pass .bound ≡ false) ⌝ }
+    ensures { λ _. ⌜ now (audio .exit) ≡ someRows true (now (starts .entry)) (now (steps .entry)) (now (gains .entry)) (now (samples .entry)) pass 0 frame len (now (audio .entry)) ⌝ }
+{
+    let s = four_of(starts, pass.first);
+    let t = four_of(steps, pass.first);
+    let g = levels_of(gains, pass.first);
+    let from = pass.from;
+    let width = pass.width;
+    let mut n = 0usize;
+    while n < len {
+        let p = places_at(s, t, frame + n, from);
+        four_row(audio, n * width + from, pass.groups, samples, p, g);
+        n += 1;
+    }
+}
+
+// whether the bounds hold anything once n routes are added
+fn last(bound: bool, n: usize, count: usize) -> bool
+    ensures { λ r. ⌜ r ≡ cond (eqb n count) bound false ⌝ }
+{
+    if n == count {
+        return bound;
+    }
+    false
+}
+
+// the first n routes of a pass
+fn head(pass: Pass, n: usize) -> Pass
+    ensures { λ r. ⌜ r ≡ headOf pass n ⌝ }
+{
+    Pass {
+        begun: pass.begun,
+        bound: last(pass.bound, n, pass.count),
+        min: pass.min,
+        max: pass.max,
+        first: pass.first,
+        count: n,
+        from: pass.from,
+        groups: pass.groups,
+        width: pass.width,
+    }
+}
+
+// n routes of a pass after the first j
+fn after(pass: Pass, j: usize, n: usize) -> Pass
+    requires { ⌜ pass .first + (j + n) ≤ slots ⌝ }
+    ensures { λ r. ⌜ r ≡ afterOf pass j n ⌝ }
+{
+    Pass {
+        begun: pass.begun,
+        bound: last(pass.bound, j + n, pass.count),
+        min: pass.min,
+        max: pass.max,
+        first: pass.first + j,
+        count: n,
+        from: pass.from,
+        groups: pass.groups,
+        width: pass.width,
+    }
+}
+
+// the rows with all routes but the last, of which at most four are left: how many they are
+fn most_rows(
+    audio: &mut [f32],
+    pass: Pass,
+    starts: &[usize],
+    steps: &[usize],
+    gains: &[f32],
+    samples: &[f32],
+    frame: usize,
+    len: usize,
+) -> usize
+    requires { ⌜ Within (now starts) (now steps) (now gains) (now samples) pass (frame + len) × (len * pass .width ≤ length (now audio)) × (4 < pass .count) ⌝ }
+    ensures { λ r. ⌜ (r < pass .count) × (now (audio .exit) ≡ sweptRows (now (starts .entry)) (now (steps .entry)) (now (gains .entry)) (now (samples .entry)) (headOf pass r) 0 frame len (now (audio .entry))) ⌝ }
+{
+    some_rows(
+        audio,
+        false,
+        head(pass, 4),
+        starts,
+        steps,
+        gains,
+        samples,
+        frame,
+        len,
+    );
+    let mut j = 4usize;
+    while j + 4 < pass.count {
+        four_rows(
+            audio,
+            after(pass, j, 4),
+            starts,
+            steps,
+            gains,
+            samples,
+            frame,
+            len,
+        );
+        j += 4;
+    }
+    j
 }
 
 // The rows of `len` frames, of which the first is `frame` and is at the start of the audio that is lent: the lanes of the span; the others as they are.
@@ -223,13 +532,23 @@ pub fn rows(
     requires { ⌜ Within (now starts) (now steps) (now gains) (now samples) pass (frame + len) × (len * pass .width ≤ length (now audio)) ⌝ }
     ensures { λ _. ⌜ now (audio .exit) ≡ sweptRows (now (starts .entry)) (now (steps .entry)) (now (gains .entry)) (now (samples .entry)) pass 0 frame len (now (audio .entry)) ⌝ }
 {
-    let width = pass.width;
-    let mut n = 0usize;
-    while n < len {
-        let at = n * width;
-        span_row(audio, pass, starts, steps, gains, samples, frame + n, at);
-        n += 1;
+    if pass.count <= 4 {
+        some_rows(
+            audio,
+            false,
+            pass,
+            starts,
+            steps,
+            gains,
+            samples,
+            frame,
+            len,
+        );
+        return;
     }
+    let j = most_rows(audio, pass, starts, steps, gains, samples, frame, len);
+    let rest = after(pass, j, pass.count - j);
+    some_rows(audio, true, rest, starts, steps, gains, samples, frame, len);
 }
 
 // ---- plain routes whose numbers stand in the samples
@@ -452,6 +771,25 @@ pub fn offset_sum(offsets: &[f32], first: usize, count: usize) -> f32
         j += 1;
     }
     out
+}
+
+// What the rows of a plan with that base are swept by, held where `bound`.
+pub fn pass_of(field: Field, plan: Plan, base: f32, bound: bool, offsets: &[f32]) -> Pass
+    requires { ⌜ plan .first + plan .count ≤ length (now offsets) ⌝ }
+    ensures { λ r. ⌜ r ≡ passOf field plan base bound (now (offsets .entry)) ⌝ }
+{
+    let offset = offset_sum(offsets, plan.first, plan.count);
+    Pass {
+        begun: base + offset,
+        bound,
+        min: plan.min,
+        max: plan.max,
+        first: plan.first,
+        count: plan.count,
+        from: field.from,
+        groups: field.groups,
+        width: field.stride,
+    }
 }
 
 // whether x is no NaN

@@ -6,6 +6,7 @@ use mathlib.Core.List.{List}
 use Prim.Native.Nat.{ℕ, _+_, _-_, _*_, _≤_, _<_}
 use native.Mathlib.Nat.{mul-add}
 use native.Mathlib.Numerals.{add-one}
+use native.Mathlib.Nat.{le-refl}
 use native.Mathlib.Omega.{arith}
 use lib.Dec.{leb, ltb}
 use lib.ListN.{getD}
@@ -34,7 +35,7 @@ use Rattle.sweep.specs.Sweep.{placeOf, swept, Within}
 use Rattle.sweep.proofs.Kept.{never}
 use Rattle.sweep.proofs.Plains.{slews-still, plain-by, some-is, others-none, offsets-are, plains-are}
 use Rattle.turning.specs.declared.Round.{Round}
-use Rattle.turning.specs.Turns.{passOf, Sums, turned, Ready, Prepared}
+use Rattle.turning.specs.Turns.{sumPass, Sums, turned, Ready, Prepared}
 
 -- ---- what the turns go by
 
@@ -43,24 +44,9 @@ pub no-field : (active : List Bool) (n : ℕ) → Fielded active n 1 (record { o
 no-field active n =
     record { stride = refl; frames = refl; within = λ h. never h; sounds = λ h. never h; span = λ h. never h }
 
--- what a plan's sums are swept by, with the sum of the offsets
-abbrev pub passBy : Field → Plan → Float → Float → Pass
-passBy q x base offset =
-    record {
-      begun = plus base offset;
-      bound = true;
-      min = x .min;
-      max = x .max;
-      first = x .first;
-      count = x .count;
-      from = q .from;
-      groups = q .groups;
-      width = q .stride;
-    }
-
 -- ---- what is read lies in the samples
 
-pub within : (r : Round) (xs : List Float) (s p : List ℕ) (g o : List Float) (x : Plan) (base : Float) {z : Pass} → z ≡ passOf (r .field) x base o → Ready r xs s p g o
+pub within : (r : Round) (xs : List Float) (s p : List ℕ) (g o : List Float) (x : Plan) (base : Float) {z : Pass} → z ≡ sumPass (r .field) x base o → Ready r xs s p g o
     → Swept (r .field) x p → Within s p g xs z (r .frame + 1)
 within r xs s p g o x base e k y =
     let route : (i : ℕ) → x .first ≤ i → i < x .first + x .count → 0 < getD p i 0 =
@@ -102,7 +88,7 @@ module _ (st : State) (t : Env) (r : Round) (plans : List Plan) (b xs : List Flo
   base = at b d
 
   abbrev pass : Pass
-  pass = passOf (r .field) x base o
+  pass = sumPass (r .field) x base o
 
   abbrev route : ℕ → Route
   route j = getD (st .program .route) (x .first + j) noRoute
@@ -130,7 +116,7 @@ module _ (st : State) (t : Env) (r : Round) (plans : List Plan) (b xs : List Flo
   plain-at j k =
       let f = lead j k in
       subst (λ (n : Route). plain t (mix .voice) n ≡ true) (sym (route-is j))
-      (plain-by t (mix .voice) (route j) voice-is (z .field .sounds (y .on) t refl refl) (f .simple) (f .rows t refl refl refl))
+      (plain-by t (mix .voice) (route j) voice-is (z .field .sounds (y .on) t refl refl) (f .simple) (f .rows t refl refl (le-refl _)))
 
   gain-at : (j : ℕ) → j < mix .count → scaledGain t (mix .route j) ≡ at g (x .first + j)
   gain-at j k = subst (λ (n : Route). scaledGain t n ≡ at g (x .first + j)) (sym (route-is j)) (sym (lead j k .gain))

@@ -7,7 +7,7 @@ use lib.Dec.{leb, ltb}
 use lib.ListN.{length, getD}
 use lib.Ieee.{Float}
 use Rattle.config.specs.Sizes.{slots, mostFrames, lanes}
-use Rattle.number.specs.Number.{plus, hold}
+use Rattle.number.specs.Number.{hold}
 use Rattle.state.specs.declared.Plan.{Plan}
 use Rattle.state.specs.declared.State.{State}
 use Rattle.model.specs.Counts.{strideOf, chunksMost, planTotal, at}
@@ -17,24 +17,13 @@ use Rattle.model.specs.Sums.{baseIn}
 use Rattle.model.specs.Tick.{heldSum, newTo, newFrom, fillFrom, lanesFrom}
 use Rattle.sweep.specs.declared.Field.{Field}
 use Rattle.sweep.specs.declared.Pass.{Pass}
-use Rattle.sweep.specs.Leads.{Led, offsetSum, Fielded}
+use Rattle.sweep.specs.Leads.{Led, passOf, Fielded}
 use Rattle.sweep.specs.Sweep.{swept}
 use Rattle.turning.specs.declared.Round.{Round}
 
--- what a plan's sums are swept by
-abbrev pub passOf : Field → Plan → Float → List Float → Pass
-passOf q x base o =
-    record {
-      begun = plus base (offsetSum o (x .first) (x .count));
-      bound = true;
-      min = x .min;
-      max = x .max;
-      first = x .first;
-      count = x .count;
-      from = q .from;
-      groups = q .groups;
-      width = q .stride;
-    }
+-- what a plan's sums are swept by: they are always held
+abbrev pub sumPass : Field → Plan → Float → List Float → Pass
+sumPass q x base o = passOf q x base true o
 
 -- the sum in lane l, held to the bounds: with the routes in the span, outside it the base
 abbrev pub sumAt : List ℕ → List ℕ → List Float → List Float → Pass → Float → ℕ → ℕ → Float

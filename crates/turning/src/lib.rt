@@ -19,7 +19,7 @@ ghost use Rattle.sum.specs.Job.{baseBy};
 ghost use Rattle.slewing.specs.Seen.{Ticks};
 ghost use Rattle.sweep.specs.Leads.{Fielded, Swept};
 ghost use Rattle.sweep.specs.Sweep.{Within};
-ghost use Rattle.turning.specs.Turns.{passOf, sumAt, Sums, turned, Ready, Prepared};
+ghost use Rattle.turning.specs.Turns.{sumPass, sumAt, Sums, turned, Ready, Prepared};
 use config::FRAMES;
 use config::SLOTS;
 use config::VOICES;
@@ -119,25 +119,6 @@ fn fill(rows: &mut [f32], start: usize, n: usize, x: f32)
         let i = start + l;
         rows[i] = x;
         l += 1;
-    }
-}
-
-// what a plan's sums are swept by: they are always held
-fn pass_of(field: Field, plan: Plan, base: f32, offsets: &[f32]) -> Pass
-    requires { ⌜ plan .first + plan .count ≤ length (now offsets) ⌝ }
-    ensures { λ r. ⌜ r ≡ passOf field plan base (now (offsets .entry)) ⌝ }
-{
-    let offset = sweep::offset_sum(offsets, plan.first, plan.count);
-    Pass {
-        begun: base + offset,
-        bound: true,
-        min: plan.min,
-        max: plan.max,
-        first: plan.first,
-        count: plan.count,
-        from: field.from,
-        groups: field.groups,
-        width: field.stride,
     }
 }
 
@@ -283,11 +264,11 @@ pub fn turn(
     samples: &[f32],
 )
     requires { ⌜ Ready round (now samples) (now starts) (now steps) (now gains) (now offsets) × Swept (round .field) plan (now steps) × (from + round .field .stride + round .field .stride ≤ length (now values)) ⌝ }
-    ensures { λ _. ⌜ ((t : Env) (x : Mix) (f : Rows) (s : Own) → Ticks t x (round .tick) → Sums t x f s (now (starts .entry)) (now (steps .entry)) (now (gains .entry)) (now (samples .entry)) (passOf (round .field) plan base (now (offsets .entry))) base (round .frame) → now (values .exit) ≡ turned t (round .tick .phase) x f s from (round .field .stride) (now (values .entry))) ⌝ }
+    ensures { λ _. ⌜ ((t : Env) (x : Mix) (f : Rows) (s : Own) → Ticks t x (round .tick) → Sums t x f s (now (starts .entry)) (now (steps .entry)) (now (gains .entry)) (now (samples .entry)) (sumPass (round .field) plan base (now (offsets .entry))) base (round .frame) → now (values .exit) ≡ turned t (round .tick .phase) x f s from (round .field .stride) (now (values .entry))) ⌝ }
 {
     let field = round.field;
     let tick = round.tick;
-    let pass = pass_of(field, plan, base, offsets);
+    let pass = sweep::pass_of(field, plan, base, true, offsets);
     let sweep = Sweep {
         pass,
         base,

@@ -19,7 +19,7 @@ chunk-steps-requires c κs =
     let o = c .before .before .before .before .before .before .before .before .before .before .before .before .before .before .before .before .before .before .before .before in
     let d = c .before .before .before .before .before .before in
     let s = c .before .before .before .before in
-    steps-ready (d .drawn .ensures .1) _ (o .args .start) (o .args .end) _ _ _ _ (omega arith) (o .pre .0) (c .before .before .before .before .before .before .before .before .before .before .before .before .block-of .ensures) (o .pre .3)
+    steps-ready (d .drawn .ensures .1) _ (o .args .start) (o .args .end) _ _ _ _ (omega arith) (o .pre .0) (c .before .before .before .before .before .before .before .before .before .before .before .before .block-of .ensures) (o .pre .2) (o .pre .3)
 
 sub-closed : tie.Need-sub-closed
 sub-closed c = omega (arith, c .before .before .before .before .before .before .before .before .before .before .before .before .before .before .before .before .before .before .before .before .before .before .before .before .before .before .before .pre .2)

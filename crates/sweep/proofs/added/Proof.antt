@@ -2,8 +2,6 @@
 use mathlib.Core.Path.{_≡_, refl, ap, _∙_}
 use Prim.Native.Nat.{ℕ, _+_, _-_, _≤_, _<_}
 use native.Mathlib.Omega.{arith}
-use lib.ListN.{length, getD-replicate}
-use lib.Ieee.{Float, nan}
 use Rattle.config.specs.Sizes.{lanes}
 use Rattle.model.specs.Counts.{at}
 use Rattle.sweep.specs.Sweep.{swept}
@@ -76,9 +74,7 @@ returns c =
     let i = c .before .loop in
     let whole : i .j ≡ a .pass .count = omega arith in
     λ l h.
-    i .inv .1 l h
-    ∙ ap (λ (b : Float). swept (a .starts .now) (a .steps .now) (a .gains .now) (a .samples .now) (a .pass .first) (a .frame) (a .lane + l) b (i .j)) (getD-replicate 16 l (a .pass .begun) nan h)
-    ∙ ap (swept (a .starts .now) (a .steps .now) (a .gains .now) (a .samples .now) (a .pass .first) (a .frame) (a .lane + l) (a .pass .begun)) whole
+    i .inv .1 l h ∙ ap (swept (a .starts .now) (a .steps .now) (a .gains .now) (a .samples .now) (a .pass .first) (a .frame) (a .lane + l) (at (a .acc) l)) whole
 
 pub added-spec : {M : Type 1} → statement M
 added-spec =

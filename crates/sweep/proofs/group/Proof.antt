@@ -4,6 +4,12 @@ use borrow.Author.Needs.{needs}
 use Rattle.sweep.proofs.group.Statement.{statement}
 use Rattle.sweep.proofs.group.Tie as tie
 
+add-begin : tie.Need-add-begin
+add-begin c = search needs
+
+begin-requires : tie.Need-begin-requires
+begin-requires c κs = search needs
+
 added-requires : tie.Need-added-requires
 added-requires c κs = search needs
 
@@ -20,9 +26,9 @@ same-length : tie.Need-same-length
 same-length c = search needs
 
 returns : tie.Need-returns
-returns c = let a = c .before .before .before .before .before .before .before .before .before .before .before .args in
-    group-done (a .starts .now) (a .steps .now) (a .gains .now) (a .samples .now) (a .pass) (a .frame) (a .start) _ _ (a .lane) (c .before .before .before .before .before .added .result) (c .before .before .before .before .bounds .result) (c .before .before .before .before .before .added .ensures) (c .before .before .before .before .bounds .ensures) (c .before .before .put .ensures)
+returns c = let a = c .before .before .before .before .before .before .before .before .before .before .before .before .before .args in
+    group-done (a .over) (a .starts .now) (a .steps .now) (a .gains .now) (a .samples .now) (a .pass) (a .frame) (a .start) _ _ (a .lane) (c .before .before .before .before .before .before .begin .result) (c .before .before .before .before .before .added .result) (c .before .before .before .before .bounds .result) (c .before .before .before .before .before .before .begin .ensures) (c .before .before .before .before .before .added .ensures) (c .before .before .before .before .bounds .ensures) (c .before .before .put .ensures)
 
 pub group-spec : {M : Type 1} → statement M
 group-spec =
-    tie.close (tie.spec added-requires bounds-requires add-put put-requires same-length returns)
+    tie.close (tie.spec add-begin begin-requires added-requires bounds-requires add-put put-requires same-length returns)

@@ -1,74 +1,61 @@
--- `sweep::rows` meets its contract. The invariant: the rows before n are put.
-use mathlib.Core.Path.{_≡_, sym}
-use Prim.Native.Nat.{ℕ, _+_, _-_, _*_, _≤_, _<_}
-use native.Mathlib.Nat.{zero-add, mul-le-mul-right}
+-- `sweep::rows` meets its contract.
+use mathlib.Core.Path.{_≡_, _∙_}
+use Prim.Native.Nat.{ℕ, _+_, _-_, _<_}
 use native.Mathlib.Omega.{arith}
-use lib.ListN.{length}
-use Rattle.list.proofs.Rows.{row-inside}
-use Rattle.sweep.specs.Sweep.{sweptRows}
-use Rattle.sweep.proofs.Laws.{sooner, rows-none, rows-more, rows-end}
+use Rattle.sweep.proofs.Laws.{rows-anew}
+use Rattle.sweep.proofs.Fours.{part-asks, all-more}
 use borrow.Author.Needs.{needs}
 use Rattle.sweep.proofs.rows.Statement.{statement}
 use Rattle.sweep.proofs.rows.Tie as tie
 
-abbrev Inv-loop : tie.InvT-loop
-Inv-loop audio₀ pass starts steps gains samples frame len width n₀ audio n = (n ≤ len) × (length audio ≡ length audio₀) × (audio ≡ sweptRows starts steps gains samples pass 0 frame n audio₀)
+some-rows-requires : tie.Need-some-rows-requires
+some-rows-requires c κs = search needs
 
-abbrev μ-loop : tie.MeasureT-loop
-μ-loop audio₀ pass starts steps gains samples frame len width n₀ audio n = len - n
-
-loop-holds : tie.Need-loop-holds Inv-loop μ-loop
-loop-holds c = let a = c .before .before .before .before .before .args in
-    (search needs, search needs, rows-none (a .starts .now) (a .steps .now) (a .gains .now) (a .samples .now) (a .pass) (a .frame) 0 _)
-
-mul-at : tie.Need-mul-at Inv-loop μ-loop
-mul-at c = let b = c .before .before .before .before .before .before .before in
-    let i = c .before .loop in
-    let less : i .n ≤ b .args .len = omega arith in
-    omega (arith, b .pre .1, mul-le-mul-right (b .args .pass .width) less)
-
-add-span-row : tie.Need-add-span-row Inv-loop μ-loop
-add-span-row c = let b = c .before .before .before .before .before .before .before .before in
-    omega (arith, b .pre .0 .frames)
-
-span-row-requires : tie.Need-span-row-requires Inv-loop μ-loop
-span-row-requires c κs = let b = c .before .before .before .before .before .before .before .before in
-    let a = b .args in
-    let i = c .before .before .loop in
-    let less : i .n < a .len = omega arith in
-    (sooner (a .starts .now) (a .steps .now) (a .gains .now) (a .samples .now) (a .pass) (omega arith) (b .pre .0), omega (arith, i .inv .1, b .pre .1, row-inside (a .pass .width) less))
-
-add-n : tie.Need-add-n Inv-loop μ-loop
-add-n c = search needs
-
-loop-less : tie.Need-loop-less Inv-loop μ-loop
-loop-less c = omega arith
-
-loop-again : tie.Need-loop-again Inv-loop μ-loop
-loop-again c = let a = c .before .before .before .before .before .before .before .before .before .before .before .args in
-    let i = c .before .before .before .before .before .loop in
-    (omega arith, search needs, rows-more (a .starts .now) (a .steps .now) (a .gains .now) (a .samples .now) (a .pass) (a .frame) 0 _ _ _ (i .n) _ (i .inv .2) (sym (zero-add (i .n * a .pass .width))) (c .before .before .span-row .ensures))
-
-same-length : tie.Need-same-length Inv-loop μ-loop
+same-length : tie.Need-same-length
 same-length c = search needs
 
-returns : tie.Need-returns Inv-loop μ-loop
-returns c = let a = c .before .before .before .before .before .before .before .args in
-    let i = c .before .loop in
-    rows-end (a .starts .now) (a .steps .now) (a .gains .now) (a .samples .now) (a .pass) (a .frame) 0 _ _ (i .n) _ (i .inv .2) (omega arith)
+returns : tie.Need-returns
+returns c =
+    let a = c .before .before .before .before .before .before .before .before .before .before .before .args in
+    c .before .before .some-rows .ensures ∙ rows-anew (a .starts .now) (a .steps .now) (a .gains .now) (a .samples .now) (a .pass) (a .frame) 0 (a .len) (a .audio .now)
+
+most-rows-requires : tie.Need-most-rows-requires
+most-rows-requires c κs = search needs
+
+sub-after : tie.Need-sub-after
+sub-after c = search needs
+
+after-requires : tie.Need-after-requires
+after-requires c κs = search needs
+
+some-rows-requires-2 : tie.Need-some-rows-requires-2
+some-rows-requires-2 c κs =
+    let b = c .before .before .before .before .before .before .before .before .before .before .before .before .before .before in
+    let a = b .args in
+    let j : ℕ = c .before .before .before .before .before .most-rows .result in
+    let less : j < a .pass .count = c .before .before .before .before .before .most-rows .ensures .0 in
+    part-asks (a .starts .now) (a .steps .now) (a .gains .now) (a .samples .now) (a .pass) (a .frame + a .len) (a .pass .first + j) (a .pass .count - j) (j + (a .pass .count - j)) (a .len) _ _ (c .before .after .ensures) (b .pre .0) (omega arith) (omega arith) (omega (arith, b .pre .1))
+
+same-length-2 : tie.Need-same-length-2
+same-length-2 c = search needs
+
+returns-2 : tie.Need-returns-2
+returns-2 c =
+    let b = c .before .before .before .before .before .before .before .before .before .before .before .before .before .before .before .before .before in
+    let a = b .args in
+    let k = c .before .before .before .before .before .before .before .before .most-rows in
+    all-more (a .starts .now) (a .steps .now) (a .gains .now) (a .samples .now) (a .pass) 0 (a .frame) (k .result) (b .pre .0 .span) _ _ _ (a .len) _ (k .ensures .0) (omega (arith, b .pre .1)) (k .ensures .1) (c .before .before .before .before .after .ensures) (c .before .before .some-rows2 .ensures)
 
 pub rows-spec : {M : Type 1} → statement M
 rows-spec =
     tie.close
     (tie.spec
-    Inv-loop
-    μ-loop
-    loop-holds
-    mul-at
-    add-span-row
-    span-row-requires
-    add-n
-    loop-less
-    loop-again
+    some-rows-requires
     same-length
-    returns)
+    returns
+    most-rows-requires
+    sub-after
+    after-requires
+    some-rows-requires-2
+    same-length-2
+    returns-2)

@@ -1,67 +1,18 @@
--- `sweep::span_row` meets its contract. The invariant: the groups before g are put.
-use mathlib.Core.Path.{_≡_, refl}
-use Prim.Native.Nat.{ℕ, _+_, _-_, _*_, _≤_}
-use native.Mathlib.Omega.{arith}
-use lib.ListN.{length}
-use Rattle.config.specs.Sizes.{lanes}
-use Rattle.model.specs.Tick.{fillFrom}
-use Rattle.sweep.specs.Sweep.{sweptAt}
-use Rattle.sweep.proofs.Laws.{groups-none, groups-more, groups-end}
+-- `sweep::span_row` meets its contract.
+use mathlib.Core.Path.{_∙_}
+use Rattle.sweep.proofs.Laws.{row-anew}
 use borrow.Author.Needs.{needs}
 use Rattle.sweep.proofs.span_row.Statement.{statement}
 use Rattle.sweep.proofs.span_row.Tie as tie
 
-abbrev Inv-loop : tie.InvT-loop
-Inv-loop audio₀ pass starts steps gains samples frame start from groups g₀ audio g = (g ≤ groups) × (length audio ≡ length audio₀) × (audio ≡ fillFrom audio₀ (start + pass .from) (λ l. sweptAt starts steps gains samples pass frame (pass .from + l)) (g * lanes))
+some-row-requires : tie.Need-some-row-requires
+some-row-requires c κs = search needs
 
-abbrev μ-loop : tie.MeasureT-loop
-μ-loop audio₀ pass starts steps gains samples frame start from groups g₀ audio g = groups - g
-
-loop-holds : tie.Need-loop-holds Inv-loop μ-loop
-loop-holds c = let a = c .before .before .before .before .before .args in
-    (search needs, search needs, groups-none (a .starts .now) (a .steps .now) (a .gains .now) (a .samples .now) (a .pass) (a .frame) (a .start) _)
-
-mul-lane : tie.Need-mul-lane Inv-loop μ-loop
-mul-lane c = let w = c .before .before .before .before .before .before .before .pre .0 in omega (arith, w .span, w .width)
-
-add-lane : tie.Need-add-lane Inv-loop μ-loop
-add-lane c = let w = c .before .before .before .before .before .before .before .pre .0 in omega (arith, w .span, w .width)
-
-group-requires : tie.Need-group-requires Inv-loop μ-loop
-group-requires c κs = let b = c .before .before .before .before .before .before .before .before in
-    (b .pre .0, omega (arith, b .pre .0 .span), omega (arith, c .before .before .loop .inv .1, b .pre .1))
-
-add-g : tie.Need-add-g Inv-loop μ-loop
-add-g c = search needs
-
-loop-less : tie.Need-loop-less Inv-loop μ-loop
-loop-less c = omega arith
-
-loop-again : tie.Need-loop-again Inv-loop μ-loop
-loop-again c = let a = c .before .before .before .before .before .before .before .before .before .before .before .args in
-    let i = c .before .before .before .before .before .loop in
-    (omega arith, search needs, groups-more (a .starts .now) (a .steps .now) (a .gains .now) (a .samples .now) (a .pass) (a .frame) (a .start) _ _ _ (i .g) _ (i .inv .2) refl (c .before .before .group .ensures))
-
-same-length : tie.Need-same-length Inv-loop μ-loop
+same-length : tie.Need-same-length
 same-length c = search needs
 
-returns : tie.Need-returns Inv-loop μ-loop
-returns c = let a = c .before .before .before .before .before .before .before .args in
-    let i = c .before .loop in
-    groups-end (a .starts .now) (a .steps .now) (a .gains .now) (a .samples .now) (a .pass) (a .frame) (a .start) _ _ (i .g) (i .inv .2) (omega arith)
+returns : tie.Need-returns
+returns c = c .before .before .some-row .ensures ∙ row-anew _ _ _ _ _ _ _ _
 
 pub span-row-spec : {M : Type 1} → statement M
-span-row-spec =
-    tie.close
-    (tie.spec
-    Inv-loop
-    μ-loop
-    loop-holds
-    mul-lane
-    add-lane
-    group-requires
-    add-g
-    loop-less
-    loop-again
-    same-length
-    returns)
+span-row-spec = tie.close (tie.spec some-row-requires same-length returns)

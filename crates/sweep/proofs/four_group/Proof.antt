@@ -1,0 +1,28 @@
+-- `sweep::four_group` meets its contract.
+use Rattle.sweep.proofs.Fours.{four-group-done}
+use borrow.Author.Needs.{needs}
+use Rattle.sweep.proofs.four_group.Statement.{statement}
+use Rattle.sweep.proofs.four_group.Tie as tie
+
+sixteen-requires : tie.Need-sixteen-requires
+sixteen-requires c κs = search needs
+
+four-requires : tie.Need-four-requires
+four-requires c κs = search needs
+
+put-requires : tie.Need-put-requires
+put-requires c κs = search needs
+
+same-length : tie.Need-same-length
+same-length c = search needs
+
+returns : tie.Need-returns
+returns c =
+    let b = c .before .before .before in
+    let a = b .before .before .before .before .before .before .args in
+    four-group-done (a .xs .now) (a .p) (a .g) (a .start) _ _ (b .before .before .sixteen .result) (b .before .four .result) (b .before .before .sixteen .ensures) (b .before .four .ensures) (c .before .before .put .ensures)
+
+pub four-group-spec : {M : Type 1} → statement M
+four-group-spec =
+    tie.close
+    (tie.spec sixteen-requires four-requires put-requires same-length returns)
