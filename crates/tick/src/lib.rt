@@ -69,9 +69,10 @@ fn put_slews(values: &mut [f32], job: Job, new: &[f32])
     );
 }
 
-// The turn of plan d, whose job this is.
+// The turn of plan d, whose job this is; `new` is room for its new slews.
 pub fn turn(
     values: &mut [f32],
+    new: &mut [f32],
     job: Job,
     d: usize,
     phase: usize,
@@ -81,7 +82,7 @@ pub fn turn(
     tables: &[f32],
     samples: &[f32],
 )
-    requires { ⌜ Bounded job × (d < job .plans) ⌝ }
+    requires { ⌜ Bounded job × (d < job .plans) × (length (now new) ≡ newNeed) ⌝ }
     ensures { λ _. ⌜ ((st : State) (t : Env) → IsTurn st d job → Given t (job .scene) (job .signals) (now (held .entry)) (now (globals .entry)) (now (bases .entry)) (now (tables .entry)) (now (samples .entry)) → now (values .exit) ≡ turn st t phase d (now (values .entry))) ⌝ }
 {
     let plan = job.plan;
@@ -90,11 +91,10 @@ pub fn turn(
     let from = turning::plan_from(scene.stride, job.chunks, d);
     let to = from + scene.stride;
     let tick = slewing::tick_of(scene, phase, plan.voice);
-    let mut new = slewing::room();
-    let sums = held_sums(&mut new, job, held, globals, bases, tables, samples, values);
+    let sums = held_sums(new, job, held, globals, bases, tables, samples, values);
     let starts = slewing::from_row(tick, sums, values, to, from, n);
     let ends = slewing::to_row(tick, sums, values, to, n);
-    put_slews(values, job, &new);
+    put_slews(values, job, new);
     slewing::put_row(values, from, starts, n);
     slewing::put_row(values, to, ends, n);
 }
@@ -180,6 +180,7 @@ fn bases_of(work: Work, globals: &[f32], bases: &[f32]) -> [f32; SLOTS]
 // the turn of plan d, where it is a control plan: the next
 fn turn_at(
     values: &mut [f32],
+    new: &mut [f32],
     work: Work,
     d: usize,
     held: &[f32],
@@ -188,7 +189,7 @@ fn turn_at(
     tables: &[f32],
     samples: &[f32],
 ) -> usize
-    requires { ⌜ Sized work × (d ≤ work .control) ⌝ }
+    requires { ⌜ Sized work × (d ≤ work .control) × (length (now new) ≡ newNeed) ⌝ }
     ensures { λ r. ⌜ (d ≤ r) × (r ≤ work .control) × (d < work .control → d < r) × ((st : State) (t : Env) (m : List Float) → Works st t work (now (held .entry)) (now (globals .entry)) (now (bases .entry)) (now (tables .entry)) (now (samples .entry)) → now (values .entry) ≡ turns st t (work .phase) d m → now (values .exit) ≡ turns st t (work .phase) r m) ⌝ }
 {
     if work.control <= d {
@@ -201,6 +202,7 @@ fn turn_at(
     let job = job_of(plan, d, routes, scene, signals, work.chunks, work.plans);
     turn(
         values,
+        new,
         job,
         d,
         work.phase,
@@ -216,6 +218,7 @@ fn turn_at(
 // the turns of the control plans: those that are swept together, then the one that is not
 fn turns_of(
     values: &mut [f32],
+    new: &mut [f32],
     work: Work,
     held: &[f32],
     globals: &[f32],
@@ -223,7 +226,7 @@ fn turns_of(
     tables: &[f32],
     samples: &[f32],
 )
-    requires { ⌜ Sized work ⌝ }
+    requires { ⌜ Sized work × (length (now new) ≡ newNeed) ⌝ }
     ensures { λ _. ⌜ ((st : State) (t : Env) → Works st t work (now (held .entry)) (now (globals .entry)) (now (bases .entry)) (now (tables .entry)) (now (samples .entry)) → now (values .exit) ≡ tickOf st t (work .phase) (now (values .entry))) ⌝ }
 {
     let plan = work.plan;
@@ -248,7 +251,7 @@ fn turns_of(
             &offsets,
             samples,
         );
-        let next = turn_at(values, work, k, held, globals, bases, tables, samples);
+        let next = turn_at(values, new, work, k, held, globals, bases, tables, samples);
         d = next;
     }
 }
@@ -286,5 +289,15 @@ pub fn tick(
         plans,
         phase,
     };
-    turns_of(values, work, held, globals, bases, tables, samples);
+    let mut new = slewing::room();
+    turns_of(
+        values,
+        &mut new,
+        work,
+        held,
+        globals,
+        bases,
+        tables,
+        samples,
+    );
 }

@@ -21,12 +21,6 @@ add-to c = search needs
 tick-of-requires : tie.Need-tick-of-requires
 tick-of-requires c κs = search needs
 
-room-requires : tie.Need-room-requires
-room-requires c κs = search needs
-
-slice-aggregate-held-sums : tie.Need-slice-aggregate-held-sums
-slice-aggregate-held-sums c = search needs
-
 held-sums-requires : tie.Need-held-sums-requires
 held-sums-requires c κs = search needs
 
@@ -36,11 +30,8 @@ from-row-requires c κs = search needs
 to-row-requires : tie.Need-to-row-requires
 to-row-requires c κs = search needs
 
-slice-aggregate-put-slews : tie.Need-slice-aggregate-put-slews
-slice-aggregate-put-slews c = search needs
-
 put-slews-requires : tie.Need-put-slews-requires
-put-slews-requires c κs = c .before .before .before .before .before .before .before .before .before .before .before .before .before .before .before .before .before .before .before .before .before .before .before .pre .0
+put-slews-requires c κs = c .before .before .before .before .before .before .before .before .before .before .before .before .before .before .before .before .before .before .before .before .before .before .before .before .pre .0
 
 put-row-requires : tie.Need-put-row-requires
 put-row-requires c κs = search needs
@@ -51,6 +42,9 @@ put-row-requires-2 c κs = search needs
 same-length : tie.Need-same-length
 same-length c = search needs
 
+same-length-2 : tie.Need-same-length-2
+same-length-2 c = search needs
+
 returns : tie.Need-returns
 returns c =
     let rows = c .before .before in
@@ -58,11 +52,11 @@ returns c =
     let slews = row .before .before .before .before in
     let ends = slews .before .before .before in
     let starts = ends .before .before in
-    let sums = starts .before .before .before in
-    let tick = sums .before .before .before .before in
+    let sums = starts .before .before .before .before in
+    let tick = sums .before .before .before in
     let from = tick .before .before in
     let width = from .before in
-    let o = width .before .before .before .before .before .before .before .before .before in
+    let o = width .before .before .before .before .before .before .before .before .before .before in
     let a = o .args in
     let w = a .job in
     let m = a .values .now in
@@ -94,14 +88,12 @@ turn-spec =
     plan-from-requires
     add-to
     tick-of-requires
-    room-requires
-    slice-aggregate-held-sums
     held-sums-requires
     from-row-requires
     to-row-requires
-    slice-aggregate-put-slews
     put-slews-requires
     put-row-requires
     put-row-requires-2
     same-length
+    same-length-2
     returns)
