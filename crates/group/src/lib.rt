@@ -4,21 +4,22 @@ ghost use mathlib.Core.Path.{_≡_};
 ghost use mathlib.Core.Bool.{true, cond};
 ghost use mathlib.Core.List.{List};
 ghost use Prim.Native.Nat.{ℕ, _+_, _*_, _≤_, _<_};
+ghost use lib.Dec.{ltb};
 ghost use lib.ListN.{length};
 ghost use lib.Ieee.{Float};
 ghost use Rattle.config.specs.Sizes.{lanes};
-ghost use Rattle.number.specs.Number.{one32, plus, less, times, nearest32};
+ghost use Rattle.number.specs.Number.{zero32, one32, plus, less, times, nearest32};
 ghost use Rattle.list.specs.Rows.{rowAt};
 ghost use Rattle.table.specs.Table.{points, position, cellAt, between, lookupOf};
 ghost use Rattle.slew.specs.Slew.{slewStep};
 ghost use Rattle.model.specs.Counts.{at};
-ghost use Rattle.model.specs.Env.{Env, Rows, Own, liveAmount, liveOutput};
+ghost use Rattle.model.specs.Env.{Env, Rows, Own, partStride, sampleIn, liveAmount, liveOutput};
 ghost use Rattle.model.specs.Input.{unipolar, curved, slewed, inputIn, fedAt};
 ghost use Rattle.model.specs.Lanes.{snapOf};
 ghost use Rattle.model.specs.RouteValue.{ownAt, spread, flipped, sourced, withAux, gainIn, routeValue};
 ghost use Rattle.input.specs.Reads.{Sized, IsRows, Reads, Works};
 ghost use Rattle.route.specs.View.{mostValues, Placed, IsOwn, Viewed};
-ghost use Rattle.sum.specs.Ground.{Inside};
+ghost use Rattle.sum.specs.Ground.{Inside, Tells};
 ghost use Rattle.group.specs.Told.{readAt, Told, Stands, AuxStands, bare, leadIn, Snaps, Leads, Withs};
 use config::LANES;
 use config::VOICES;
@@ -131,8 +132,8 @@ fn read_lane(
     )
 }
 
-// the same in sixteen lanes from `lane` on
-fn read_lanes(
+// the same in sixteen lanes from `lane` on, one by one
+fn read_each(
     read: Read,
     view: View,
     part: SignalPart,
@@ -163,7 +164,154 @@ fn read_lanes(
     out
 }
 
-// the same of numbers that stand at a place
+// ---- a signal that has fewer numbers a frame than there are lanes
+
+// number p of the `wide` from `start` on; beyond them 0
+fn narrow(samples: &[f32], start: usize, wide: usize, p: usize) -> f32
+    requires { ⌜ start + wide ≤ length (now samples) ⌝ }
+    ensures { λ r. ⌜ r ≡ cond (ltb p wide) (at (now (samples .entry)) (start + p)) zero32 ⌝ }
+{
+    if p < wide {
+        return samples[start + p];
+    }
+    0.0
+}
+
+// those in sixteen lanes from `lane` on
+fn narrow_lanes(samples: &[f32], start: usize, wide: usize, lane: usize) -> [f32; LANES]
+    requires { ⌜ (start + wide ≤ length (now samples)) × (lane + lanes ≤ 64) ⌝ }
+    ensures { λ r. ⌜ ((l : ℕ) → l < lanes → at r l ≡ cond (ltb (lane + l) wide) (at (now (samples .entry)) (start + (lane + l))) zero32) ⌝ }
+{
+    let mut out = [0.0f32; LANES];
+    for l in 0..16 {
+        out[l] = narrow(samples, start, wide, lane + l);
+    }
+    out
+}
+
+// a signal per voice in sixteen lanes, one by one
+fn sample_each(samples: &[f32], part: SignalPart, frame: usize, lane: usize) -> [f32; LANES]
+    requires { ⌜ lane + lanes ≤ 64 ⌝ }
+    ensures { λ r. ⌜ ((l : ℕ) → l < lanes → at r l ≡ sampleIn (now (samples .entry)) part frame true (lane + l)) ⌝ }
+{
+    let mut out = [0.0f32; LANES];
+    for l in 0..16 {
+        out[l] = input::sample_in(samples, part, frame, true, lane + l);
+    }
+    out
+}
+
+// the same, where its row of `wide` numbers stands at a place
+fn sample_at(
+    place: Place,
+    samples: &[f32],
+    part: SignalPart,
+    frame: usize,
+    wide: usize,
+    lane: usize,
+) -> [f32; LANES]
+    requires { ⌜ ((h m : List Float) → Inside place wide h (now samples) m) × (lane + lanes ≤ 64) ⌝ }
+    ensures { λ r. ⌜ (((h m : List Float) (l : ℕ) → l < wide → Tells place h (now (samples .entry)) m l (sampleIn (now (samples .entry)) part frame true l)) → wide ≡ partStride part → (l : ℕ) → l < lanes → at r l ≡ sampleIn (now (samples .entry)) part frame true (lane + l)) ⌝ }
+{
+    match place {
+        Place::Samples(start) => narrow_lanes(samples, start, wide, lane),
+        Place::Held(_) => sample_each(samples, part, frame, lane),
+        Place::Values(_) => sample_each(samples, part, frame, lane),
+        Place::Nowhere => sample_each(samples, part, frame, lane),
+    }
+}
+
+// A signal in sixteen lanes from `lane` on.
+pub fn sample_lanes(
+    samples: &[f32],
+    part: SignalPart,
+    frame: usize,
+    voice: bool,
+    lane: usize,
+) -> [f32; LANES]
+    requires { ⌜ lane + lanes ≤ 64 ⌝ }
+    ensures { λ r. ⌜ ((l : ℕ) → l < lanes → at r l ≡ sampleIn (now (samples .entry)) part frame voice (lane + l)) ⌝ }
+{
+    if !voice {
+        let x = input::sample_in(samples, part, frame, false, 0);
+        return [x; LANES];
+    }
+    let wide = input::part_stride(part);
+    let place = sum::signal_place(true, part, frame, wide, samples);
+    sample_at(place, samples, part, frame, wide, lane)
+}
+
+// ---- what an input reads, in sixteen lanes
+
+// the same, a signal by its row
+fn read_lanes(
+    read: Read,
+    view: View,
+    part: SignalPart,
+    position: usize,
+    lane: usize,
+    held: &[f32],
+    globals: &[f32],
+    samples: &[f32],
+    values: &[f32],
+) -> [f32; LANES]
+    requires { ⌜ Placed view × (position < 2) × (lane + lanes ≤ 64) ⌝ }
+    ensures { λ r. ⌜ ((t : Env) (f : Rows) (s : Own) (j : ℕ) → Told t f s j view read part (now (held .entry)) (now (globals .entry)) (now (samples .entry)) (now (values .entry)) → (l : ℕ) → l < lanes → at r l ≡ readAt t f s j position read (lane + l)) ⌝ }
+{
+    let frame = view.point.frame;
+    match read {
+        Read::Signal { source: _, voice } => sample_lanes(samples, part, frame, voice, lane),
+        Read::Held {
+            source: _,
+            voice: _,
+        } => read_each(
+            read,
+            view,
+            part,
+            position,
+            lane,
+            held,
+            globals,
+            samples,
+            values,
+        ),
+        Read::Fed { plan: _, voice: _ } => read_each(
+            read,
+            view,
+            part,
+            position,
+            lane,
+            held,
+            globals,
+            samples,
+            values,
+        ),
+        Read::Constant => read_each(
+            read,
+            view,
+            part,
+            position,
+            lane,
+            held,
+            globals,
+            samples,
+            values,
+        ),
+        Read::RouteRandom => read_each(
+            read,
+            view,
+            part,
+            position,
+            lane,
+            held,
+            globals,
+            samples,
+            values,
+        ),
+    }
+}
+
+// What an input reads in sixteen lanes, of numbers that stand at a place.
 fn raw_lanes(
     place: Place,
     read: Read,

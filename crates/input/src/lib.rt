@@ -9,7 +9,7 @@ ghost use Rattle.config.specs.Sizes.{mostVoices};
 ghost use Rattle.list.specs.Rows.{rowAt};
 ghost use Rattle.table.specs.Table.{points, lookupOf};
 ghost use Rattle.model.specs.Counts.{at};
-ghost use Rattle.model.specs.Env.{Env, Rows, noPart, partOf, partStride, inPart, sampleIn};
+ghost use Rattle.model.specs.Env.{Env, Rows, noPart, partStride, inPart, sampleIn};
 ghost use Rattle.model.specs.Input.{own, fedAt, readIn, unipolar, curved, slewed, inputIn};
 ghost use Rattle.model.specs.Lanes.{anyFrom, groupOf, inGroup, sounding, inSpan, laneIf, newestLane, addend, sameGroup, worked, snapOf};
 ghost use Rattle.model.specs.Layout.{planSize, planTo};
@@ -18,13 +18,11 @@ ghost use Rattle.input.specs.Lane.{laneOf};
 ghost use Rattle.input.specs.Signal.{signalIn};
 ghost use Rattle.input.specs.Reads.{Sized, IsRows, Reads, Works, partFor, fedFrom, heldAt, pointOf};
 use config::LANES;
-use config::SOURCES;
 use config::VOICES;
 use state::Gains;
 use state::Input;
 use state::Read;
 use state::SignalPart;
-use state::Signals;
 use state::Slew;
 use table::POINTS;
 use voice::Newest;
@@ -265,33 +263,6 @@ pub fn no_part() -> SignalPart
         at: 0,
         len: 0,
         stride: 0,
-    }
-}
-
-// The part of a source's signal.
-pub fn part_of(signals: Signals, source: u8) -> SignalPart
-    ensures { λ r. ⌜ r ≡ partOf signals source ⌝ }
-{
-    let i = source as usize;
-    if i < SOURCES {
-        return signals.part[i];
-    }
-    no_part()
-}
-
-// The part of the signal that an input reads, where it reads one.
-pub fn part_for(signals: Signals, read: Read) -> SignalPart
-    ensures { λ r. ⌜ r ≡ partFor signals read ⌝ }
-{
-    match read {
-        Read::Signal { source, voice: _ } => part_of(signals, source),
-        Read::Held {
-            source: _,
-            voice: _,
-        } => no_part(),
-        Read::Fed { plan: _, voice: _ } => no_part(),
-        Read::Constant => no_part(),
-        Read::RouteRandom => no_part(),
     }
 }
 

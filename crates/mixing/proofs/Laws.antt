@@ -18,12 +18,16 @@ use Rattle.model.specs.RouteValue.{auxIn}
 use Rattle.model.specs.Routes.{freeSlew}
 use Rattle.model.specs.Tick.{fillFrom}
 use Rattle.model.proofs.FillFrom.{fill-length}
-use Rattle.slewing.specs.Put.{auxFree, newStart}
+use Rattle.slewing.specs.Put.{auxFree, still, newStart}
 use Rattle.group.specs.Told.{Withs}
 use Rattle.mixing.specs.Mixed.{Between, Apart, Beside, auxBy, slewBy}
 
 pub never : {A : Type 0} → false ≡ true → A
 never h = let z : _≡_ {A = ℕ} 0 1 = cc in absurd (omega arith)
+
+-- a route that has no slew has nothing new
+pub still-none : {A : Type 0} (r : Route) {b : Bool} → b ≡ still r → b ≡ true → still r ≡ false → A
+still-none r e on off = never (sym off ∙ sym e ∙ on)
 
 -- ---- a whole row
 

@@ -1,4 +1,4 @@
-// The sums of a plan at a tick and the new slews of its routes, in one pass over the routes: each input is worked out once, sixteen lanes at a time where plan and
+// The sums of a plan, at a tick or at a frame of audio, and the new slews of its routes, in one pass over the routes: each input is worked out once, sixteen lanes at a time where plan and
 // route are per voice (engine.rs 843-935, 1313-1399; document 01, Chunk and value). The definitions are in model's specs/Sums and specs/Slews.
 ghost use mathlib.Core.Path.{_≡_};
 ghost use mathlib.Core.Bool.{true, false, cond};
@@ -14,14 +14,12 @@ ghost use Rattle.model.specs.Env.{Env, Rows, Own};
 ghost use Rattle.model.specs.Lanes.{inGroup, addend};
 ghost use Rattle.model.specs.Mix.{Mix};
 ghost use Rattle.model.specs.RouteValue.{idle, plain};
-ghost use Rattle.model.specs.Sums.{addLane, otherStep, others, tickSum};
+ghost use Rattle.model.specs.Sums.{addLane, otherStep, others, tickSum, audioSum};
 ghost use Rattle.input.specs.Reads.{Works, partFor, pointOf};
 ghost use Rattle.route.specs.View.{Placed, auxPart, IsOwn, Viewed};
 ghost use Rattle.sum.specs.Job.{Bounded, laneCount, Mixes, Sums};
 ghost use Rattle.sum.specs.Ground.{Based, Inside, Chosen, Reached};
-ghost use Rattle.slewing.specs.Put.{still, auxFree, newNeed, newStart, IsNew};
-ghost use Rattle.slewing.specs.Seen.{Moved};
-ghost use Rattle.model.specs.Routes.{freeSlew};
+ghost use Rattle.slewing.specs.Put.{still, newNeed, newStart, IsNew};
 ghost use Rattle.group.specs.Told.{Told, Stands, AuxStands, Leads, Withs};
 ghost use Rattle.mixing.specs.Mixed.{Between, Apart, Beside, slewBy, NewGroup, sumBy, SumGroup};
 use config::LANES;
@@ -110,11 +108,14 @@ fn after(
     row
 }
 
-// the slews of route j in a group that is not worked out: as they are
-fn keep_group(new: &mut [f32], j: usize, view: View, lane: usize, values: &[f32])
+// the slews of route j, where it has any, in a group that is not worked out: as they are
+fn keep_group(new: &mut [f32], j: usize, route: Route, view: View, lane: usize, values: &[f32])
     requires { ⌜ Placed view × (j < slots) × (lane + lanes ≤ 64) × (length (now new) ≡ newNeed) ⌝ }
-    ensures { λ _. ⌜ Apart j lane (now (new .entry)) (now (new .exit)) × ((t : Env) (f : Rows) (s : Own) (route : Route) → IsOwn s j (view .own) (view .point .stride) (now (values .entry)) → NewGroup t f s j route false lane (now (new .exit))) ⌝ }
+    ensures { λ _. ⌜ Apart j lane (now (new .entry)) (now (new .exit)) × ((t : Env) (f : Rows) (s : Own) → IsOwn s j (view .own) (view .point .stride) (now (values .entry)) → NewGroup t f s j route false lane (now (new .exit))) ⌝ }
 {
+    if slewing::still(route) {
+        return;
+    }
     let start = j * 128 + lane;
     let stride = view.point.stride;
     let source = group::own_lanes(values, view.own, stride, 0, lane);
@@ -123,7 +124,7 @@ fn keep_group(new: &mut [f32], j: usize, view: View, lane: usize, values: &[f32]
     put_to(new, start + 64, with);
 }
 
-// the new slews of route j in a group that is worked out, of its source and its aux there
+// the new slews of route j, where it has any, in a group that is worked out, of its source and its aux there
 fn put_group(
     new: &mut [f32],
     j: usize,
@@ -137,6 +138,9 @@ fn put_group(
     requires { ⌜ Placed view × (j < slots) × (lane + lanes ≤ 64) × (length (now new) ≡ newNeed) ⌝ }
     ensures { λ _. ⌜ Apart j lane (now (new .entry)) (now (new .exit)) × ((t : Env) (f : Rows) (s : Own) → IsOwn s j (view .own) (view .point .stride) (now (values .entry)) → Leads t f s j route lane source → Withs t f s j route (route .aux) lane with → NewGroup t f s j route true lane (now (new .exit))) ⌝ }
 {
+    if slewing::still(route) {
+        return;
+    }
     let input = route.source;
     let aux = route.aux;
     let start = j * 128 + lane;
@@ -169,7 +173,7 @@ fn mix_group(
     ensures { λ _. ⌜ Apart j lane (now (new .entry)) (now (new .exit)) × Beside lane (now (sums .entry)) (now (sums .exit)) × ((t : Env) (f : Rows) (s : Own) → t .snap ≡ snap → t .fresh ≡ fresh → route .voice ≡ true → Viewed t f s j view route (now (held .entry)) (now (globals .entry)) (now (tables .entry)) (now (samples .entry)) (now (values .entry)) → Stands t f s j 0 (route .source .read) source (view .point .stride) (now (held .entry)) (now (samples .entry)) (now (values .entry)) → AuxStands t f s j (route .aux) with (view .point .stride) (now (held .entry)) (now (samples .entry)) (now (values .entry)) → NewGroup t f s j route on lane (now (new .exit)) × SumGroup t f s j route on lane (now (sums .entry)) (now (sums .exit))) ⌝ }
 {
     if !on {
-        keep_group(new, j, view, lane, values);
+        keep_group(new, j, route, view, lane, values);
         return;
     }
     let aux = route.aux;
@@ -672,5 +676,80 @@ pub fn mix(
     let base = sum::base_in(job, globals, bases);
     let mut row = sum::tick_begun(job, base, held, globals, samples, values);
     mix_all(new, &mut row, job, held, globals, tables, samples, values);
+    row
+}
+
+// the same at a frame of audio, in a loop of its own, so that each loop becomes a part of its caller (docs/SPEED.md)
+fn mix_frame(
+    new: &mut [f32],
+    sums: &mut [f32],
+    job: Job,
+    held: &[f32],
+    globals: &[f32],
+    tables: &[f32],
+    samples: &[f32],
+    values: &[f32],
+)
+    requires { ⌜ Bounded job × (length (now new) ≡ newNeed) × (length (now sums) ≡ 64) ⌝ }
+    ensures { λ _. ⌜ (length (now (new .exit)) ≡ newNeed) × (length (now (sums .exit)) ≡ 64) × ((t : Env) (f : Rows) (s : Own) (x : Mix) → Mixes t f s x job (now (held .entry)) (now (globals .entry)) (now (samples .entry)) (now (values .entry)) → Works t (pointOf (job .scene) (job .chunks)) (now (tables .entry)) → ((l : ℕ) → l < laneCount job → at (now (sums .exit)) l ≡ others t f s x l (at (now (sums .entry)) l) (x .count)) × ((j : ℕ) → j < x .count → j < slots → IsNew t x f s j (x .route j) (now (new .exit)))) ⌝ }
+{
+    let ground = sum::ground_of(job);
+    let reach = sum::reach_of(job);
+    let plan = job.plan;
+    let count = sum::counted(plan.count);
+    let routes = sum::routes_of(job);
+    let signals = job.signals;
+    let parts = sum::parts_of(signals);
+    let first = plan.first;
+    let mut j = 0usize;
+    while j < count {
+        let i = sum::route_index(first, j);
+        let stored = routes[i];
+        let route = sum::route_or(first, j, stored);
+        let key = sum::source_key(route);
+        let k = sum::part_index(key);
+        let kept = parts[k];
+        let source = sum::part_or(key, kept);
+        let other = sum::route_aux_key(route);
+        let m = sum::part_index(other);
+        let spare = parts[m];
+        let aux = sum::part_or(other, spare);
+        mix_route(
+            new,
+            sums,
+            ground,
+            reach,
+            j,
+            route,
+            source,
+            aux,
+            held,
+            globals,
+            tables,
+            samples,
+            values,
+        );
+        j += 1;
+    }
+}
+
+// The sum of a destination in audio in each lane of its row, where `old` stands there, and the new slews of its routes.
+pub fn mix_audio(
+    new: &mut [f32],
+    job: Job,
+    old: [f32; VOICES],
+    held: &[f32],
+    globals: &[f32],
+    bases: &[f32],
+    tables: &[f32],
+    samples: &[f32],
+    values: &[f32],
+) -> [f32; VOICES]
+    requires { ⌜ Bounded job × (length (now new) ≡ newNeed) ⌝ }
+    ensures { λ r. ⌜ (length (now (new .exit)) ≡ newNeed) × ((t : Env) (f : Rows) (s : Own) (x : Mix) → Sums t f s x job (now (held .entry)) (now (globals .entry)) (now (bases .entry)) (now (tables .entry)) (now (samples .entry)) (now (values .entry)) → ((l : ℕ) → l < laneCount job → at r l ≡ audioSum t f s x (at old l) l) × ((j : ℕ) → j < x .count → j < slots → IsNew t x f s j (x .route j) (now (new .exit)))) ⌝ }
+{
+    let base = sum::base_in(job, globals, bases);
+    let mut row = sum::audio_begun(job, base, old, held, globals, samples, values);
+    mix_frame(new, &mut row, job, held, globals, tables, samples, values);
     row
 }

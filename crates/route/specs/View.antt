@@ -8,12 +8,10 @@ use Rattle.state.specs.declared.Aux.the-variants as X
 use Rattle.state.specs.declared.Route.{Route}
 use Rattle.state.specs.declared.SignalPart.{SignalPart}
 use Rattle.state.specs.declared.Signals.{Signals}
-use Rattle.model.specs.Counts.{at}
 use Rattle.model.specs.Env.{Env, Rows, Own, noPart, liveAmount, liveOutput}
 use Rattle.model.specs.Layout.{routeSlew}
 use Rattle.model.specs.Tick.{lanesFrom}
-use Rattle.input.specs.declared.Scene.{Scene}
-use Rattle.input.specs.Reads.{Sized, Reads, Works, partFor, pointOf}
+use Rattle.input.specs.Reads.{Sized, Reads, Works, partFor}
 use Rattle.route.specs.declared.View.{View}
 
 -- the most numbers that the values of a program have
@@ -29,18 +27,6 @@ pub record Placed (v : View) : Type 0 where
 abbrev pub auxPart : Signals → Aux → SignalPart
 auxPart s X.Missing = noPart
 auxPart s (X.With i) = partFor s (i .read)
-
--- of a scene, for a route whose own rows start at a
-abbrev pub viewOf : Scene → Signals → ℕ → ℕ → Route → View
-viewOf s signals chunks a r =
-    record {
-      point = pointOf s chunks;
-      own = a;
-      source = partFor signals (r .source .read);
-      aux = auxPart signals (r .aux);
-      amount = at (s .gains .amount) (r .slot);
-      output = at (s .gains .output) (r .slot);
-    }
 
 -- the own rows of the routes from `first` on
 abbrev pub ownRows : ℕ → ℕ → ℕ → ℕ → List Float → Own

@@ -6,7 +6,6 @@ ghost use Prim.Native.Nat.{ℕ, _+_, _*_, _≤_, _<_};
 ghost use lib.Dec.{ltb, leb};
 ghost use Rattle.config.specs.Sizes.{slots};
 ghost use Rattle.state.specs.declared.Aux.the-variants as X;
-ghost use Rattle.model.specs.Counts.{at};
 ghost use Rattle.model.specs.Env.{Env, Rows, Own, partStride, liveAmount, liveOutput};
 ghost use Rattle.model.specs.Input.{inputIn};
 ghost use Rattle.model.specs.Layout.{routeSlew};
@@ -16,18 +15,15 @@ ghost use Rattle.model.specs.Routes.{freeSlew, liveGain};
 ghost use Rattle.model.specs.RouteValue.{ownAt, spread, flipped, sourceIn, auxIn, rawIn, sourced, withAux, gainIn, gained, routeValue, idle, rowed, plain};
 ghost use Rattle.model.specs.Slews.{movesIn, auxSlew, sourceAfter, auxAfter};
 ghost use Rattle.input.specs.Reads.{Sized, IsRows, Reads, Works, partFor};
-ghost use Rattle.route.specs.View.{mostValues, Placed, auxPart, viewOf, IsOwn, Viewed};
-use config::SLOTS;
+ghost use Rattle.route.specs.View.{mostValues, Placed, IsOwn, Viewed};
 use input::Lead;
 use input::Point;
-use input::Scene;
 use state::Aux;
 use state::Gain;
 use state::Input;
 use state::Read;
 use state::Route;
 use state::SignalPart;
-use state::Signals;
 use state::Slew;
 
 // What a route's lanes are worked out from at one frame, besides the lent numbers: its own rows start at `own`, its inputs read the parts `source` and `aux`
@@ -48,53 +44,6 @@ pub fn own_start(stride: usize, chunks: usize, plans: usize, route: usize) -> us
 {
     let size = input::plan_size(stride, chunks);
     plans * size + route * (8 * stride)
-}
-
-// the amount or output of a slot
-fn gain_at(gains: [f32; SLOTS], slot: u8) -> f32
-    ensures { λ r. ⌜ r ≡ at gains slot ⌝ }
-{
-    let i = slot as usize;
-    if i < SLOTS {
-        return gains[i];
-    }
-    registry::not_a_number()
-}
-
-// the part of the signals that an aux reads
-fn aux_part(signals: Signals, aux: Aux) -> SignalPart
-    ensures { λ r. ⌜ r ≡ auxPart signals aux ⌝ }
-{
-    match aux {
-        Aux::Missing => input::no_part(),
-        Aux::With(i) => input_part(signals, i),
-    }
-}
-
-fn input_part(signals: Signals, input: Input) -> SignalPart
-    ensures { λ r. ⌜ r ≡ partFor signals (input .read) ⌝ }
-{
-    let read = input.read;
-    input::part_for(signals, read)
-}
-
-// The view of a route whose own rows start at `own`.
-pub fn view_of(scene: Scene, signals: Signals, chunks: usize, own: usize, route: Route) -> View
-    ensures { λ r. ⌜ r ≡ viewOf scene signals chunks own route ⌝ }
-{
-    let source = route.source;
-    let aux = route.aux;
-    let gains = scene.gains;
-    let amount = gains.amount;
-    let output = gains.output;
-    View {
-        point: input::point_of(scene, chunks),
-        own,
-        source: input_part(signals, source),
-        aux: aux_part(signals, aux),
-        amount: gain_at(amount, route.slot),
-        output: gain_at(output, route.slot),
-    }
 }
 
 // ---- own rows

@@ -3,4 +3,3 @@ pub mod Ticks
 pub mod Motions
 pub mod News
 pub mod Putting
-pub mod Scenes

@@ -1,51 +1,21 @@
 -- The new slews of a plan's routes, in a memory of their own. Assumes nothing.
 use mathlib.Core.Path.{_≡_, ap, _∙_}
 use mathlib.Core.Bool.{Bool, true}
-use mathlib.Core.Logic.{inl, ⊎-elim}
+use mathlib.Core.Logic.{inl}
 use mathlib.Core.List.{List}
 use Prim.Native.Nat.{ℕ, zero, suc, _+_, _*_, _≤_, _<_}
-use native.Mathlib.Nat.{eq-or-lt-of-le, le-of-suc-le-suc}
 use native.Mathlib.Omega.{arith}
 use lib.ListN.{length}
 use lib.Ieee.{Float}
-use Rattle.state.specs.declared.Gains.{Gains}
 use Rattle.state.specs.declared.Route.{Route}
-use Rattle.state.specs.declared.Signals.{Signals}
 use Rattle.model.specs.Counts.{at}
 use Rattle.model.specs.Env.{Env, Rows, Own}
 use Rattle.model.specs.Mix.{Mix}
 use Rattle.model.specs.Slews.{sourceAfter, auxAfter}
 use Rattle.model.specs.Tick.{fillFrom}
 use Rattle.model.proofs.FillFrom.{fill-length, fill-inside, fill-outside}
-use Rattle.input.specs.declared.Scene.{Scene}
-use Rattle.input.specs.Reads.{IsRows, partFor, pointOf}
-use Rattle.route.specs.declared.View.{View}
-use Rattle.route.specs.View.{viewOf, auxPart, IsOwn, Viewed}
 use Rattle.slewing.specs.Rows.{IsRow}
-use Rattle.slewing.specs.Seen.{Seen}
 use Rattle.slewing.specs.Put.{newNeed, newStart, still, IsNew}
-
--- A VIEW of a scene shows what t has, where t has the scene
-pub seen-viewed : (t : Env) (c : Scene) (z : Signals) (chunks a : ℕ) (r : Route) (h g b i m : List Float) (f : Rows) (s : Own) (j : ℕ) {v : View}
-    → v ≡ viewOf c z chunks a r → Seen t c z h g b i → IsRows f (pointOf c chunks) m → IsOwn s j a (c .stride) m → Viewed t f s j v r h g b i m
-seen-viewed t c z chunks a r h g b i m f s j e k rows own =
-    rw e
-    (record {
-      reads = record {
-        stride = k .scene .stride;
-        frame = k .scene .frame;
-        held = k .held;
-        globals = k .globals;
-        samples = k .samples;
-        rows = rows;
-      };
-      works = record { steps = k .scene .steps; tables = k .tables };
-      own = own;
-      source = ap (λ (y : Signals). partFor y (r .source .read)) (k .signals);
-      aux = ap (λ (y : Signals). auxPart y (r .aux)) (k .signals);
-      amount = ap (λ (y : Gains). at (y .amount) (r .slot)) (k .scene .gains);
-      output = ap (λ (y : Gains). at (y .output) (r .slot)) (k .scene .gains);
-    })
 
 -- ---- two rows of one route
 
@@ -88,12 +58,3 @@ still-new t x f s j k r m n h b e i off q l a g = e (newStart j q + l) (omega ar
 -- a route that has no slew has nothing new
 pub none-new : (t : Env) (x : Mix) (f : Rows) (s : Own) (j : ℕ) (r : Route) (n : List Float) {b : Bool} → b ≡ still r → b ≡ true → IsNew t x f s j r n
 none-new t x f s j r n e on off q l a g = let z : _≡_ {A = ℕ} 0 1 = cc in absurd (omega arith)
-
--- one route more
-pub new-more : (t : Env) (x : Mix) (f : Rows) (s : Own) (j : ℕ) (r : Route) (m n : List Float) → t .stride ≤ 64 → ((p : ℕ) → p < newStart j 0 → at n p ≡ at m p) → x .route j ≡ r
-    → IsNew t x f s j r n → ((i : ℕ) → i < j → IsNew t x f s i (x .route i) m) → (i : ℕ) → i < j + 1 → IsNew t x f s i (x .route i) n
-new-more t x f s j r m n b e q last before i h =
-    ⊎-elim
-    (λ (z : i ≡ j). rw (z, q) last)
-    (λ (z : i < j). still-new t x f s i j (x .route i) m n z b e (before i z))
-    (eq-or-lt-of-le (le-of-suc-le-suc (omega arith)))

@@ -31,9 +31,8 @@ use Rattle.model.proofs.FillFrom.{fill-length, fill-outside, fill-same, fill-se
 use Rattle.input.proofs.Numbers.{which}
 use Rattle.input.specs.Reads.{planRows}
 use Rattle.route.specs.View.{ownRows}
-use Rattle.slewing.specs.declared.Stage.{Stage}
-use Rattle.slewing.specs.Seen.{Into, Lies}
-use Rattle.slewing.specs.Put.{auxFree, still, newStart, IsNew, putRoute, putNew, allStill}
+use Rattle.slewing.specs.Seen.{Lies}
+use Rattle.slewing.specs.Put.{auxFree, still, newStart, IsNew, putRoute, putNew}
 
 -- what is read past the routes of an array
 abbrev pub unread : Route
@@ -183,40 +182,9 @@ stands t x f s j zero l r e h b = rw (e, and-left (freeSlew (r .source .slew)) (
 stands t x f s j (suc zero) l r e h b = rw e (aux-stands t x f s j l r (r .aux) (and-right (freeSlew (r .source .slew)) (auxFree (r .aux)) h))
 stands t x f s j (suc (suc q)) l r e h b = absurd (omega arith)
 
--- ---- routes without slews
-
-pub all-more : (routes : List Route) (first k : ℕ) {r : Route} {b : Bool} → r ≡ getD routes (first + k) noRoute → allStill routes first k ≡ true → b ≡ still r → b ≡ true → allStill routes first (k + 1) ≡ true
-all-more routes first k q e h on = rw (add-one, e, ← q, ← h) on
-
-pub not-all : (routes : List Route) (first k n : ℕ) {r : Route} {b : Bool} → r ≡ getD routes (first + k) noRoute → k < n → b ≡ still r → b ≡ false → allStill routes first n ≡ false
-not-all routes first k zero q l h off = absurd (omega arith)
-not-all routes first k (suc n) q l h off =
-    ⊎-elim
-    (λ (z : k ≡ n). rw (← z, ← q, ← h, off) (and-false (allStill routes first k)))
-    (λ (z : k < n). rw (not-all routes first k n q z h off))
-    (eq-or-lt-of-le (le-of-suc-le-suc l))
-
-pub all-each : (routes : List Route) (first n : ℕ) → allStill routes first n ≡ true → (j : ℕ) → j < n → still (getD routes (first + j) noRoute) ≡ true
-all-each routes first zero e j h = absurd (omega arith)
-all-each routes first (suc n) e j h =
-    let last = getD routes (first + n) noRoute in
-    ⊎-elim
-    (λ (z : j ≡ n). rw z (and-right (allStill routes first n) (still last) e))
-    (λ (z : j < n). all-each routes first n (and-left (allStill routes first n) (still last) e) j z)
-    (eq-or-lt-of-le (le-of-suc-le-suc h))
-
 -- no route stands past the array
 pub none-past : (routes : List Route) (i : ℕ) → length routes ≡ 64 → 64 ≤ i → still (getD routes i noRoute) ≡ true
 none-past routes i e h = ap still (getD-past routes i noRoute (omega arith))
-
--- where none of the first n routes has a slew, and the others stand past the array, none of them all has
-pub still-all : (routes : List Route) (first n count : ℕ) → length routes ≡ 64 → allStill routes first n ≡ true → ((j : ℕ) → n ≤ j → j < count → 64 ≤ first + j)
-    → (j : ℕ) → j < count → still (getD routes (first + j) noRoute) ≡ true
-still-all routes first n count long all past j h = go (decLt j n)
-  where
-    go : Dec (j < n) → still (getD routes (first + j) noRoute) ≡ true
-    go (yes z) = all-each routes first n all j z
-    go (no z) = none-past routes (first + j) long (past j (omega arith) h)
 
 -- ---- the slews of a plan
 

@@ -48,8 +48,3 @@ unfolding fillFrom
 putNew stride chunks plans first routes n zero m = m
 putNew stride chunks plans first routes n (suc k) m =
     putRoute stride (getD routes (first + k) noRoute) (routeSlew stride chunks plans (first + k) 0) n k (putNew stride chunks plans first routes n k m)
-
--- none of the first k routes from `first` on has a slew
-abbrev pub allStill : List Route → ℕ → ℕ → Bool
-allStill routes first zero = true
-allStill routes first (suc k) = allStill routes first k && still (getD routes (first + k) noRoute)

@@ -12,26 +12,26 @@ ghost use Rattle.state.specs.declared.Route.{Route};
 ghost use Rattle.filled.specs.Filled.{noRoute};
 ghost use Rattle.state.specs.declared.State.{State};
 ghost use Rattle.model.specs.Counts.{at};
-ghost use Rattle.model.specs.Env.{Env, Rows, Own, liveAmount, liveOutput};
-ghost use Rattle.model.specs.Lanes.{sounding, snapOf};
+ghost use Rattle.model.specs.Env.{Env, Rows, Own};
+ghost use Rattle.model.specs.Lanes.{snapOf};
 ghost use Rattle.model.specs.Mix.{Mix};
 ghost use Rattle.model.specs.Routes.{freeSlew};
 ghost use Rattle.model.specs.Slews.{movesIn, sourceAfter, auxAfter};
 ghost use Rattle.model.specs.Tick.{fillFrom, lanesFrom, starting, kept, heldSum, newTo, newFrom, putSlews, slewAfter};
-ghost use Rattle.input.specs.Reads.{IsRows, planRows, partFor, pointOf};
-ghost use Rattle.route.specs.View.{mostValues, Placed, IsOwn, Viewed, ownRows};
+ghost use Rattle.input.specs.Reads.{planRows};
+ghost use Rattle.route.specs.View.{mostValues, Placed, Viewed, ownRows};
 ghost use Rattle.slewing.specs.Rows.{IsRow};
-ghost use Rattle.slewing.specs.Seen.{Fits, Staged, Seen, IsMix, Into, Lies, Ticks, Moved};
-ghost use Rattle.slewing.specs.Put.{auxFree, still, newNeed, newStart, IsNew, putRoute, putNew, allStill};
+ghost use Rattle.sum.specs.Job.{Bounded, IsMix};
+ghost use Rattle.slewing.specs.Seen.{Lies, Ticks, Moved};
+ghost use Rattle.slewing.specs.Put.{auxFree, still, newNeed, newStart, IsNew, putRoute, putNew};
 use config::SLOTS;
 use config::VOICES;
 use input::Scene;
 use route::View;
 use state::Aux;
 use state::Input;
-use state::Plan;
 use state::Route;
-use state::Signals;
+use sum::Job;
 use voice::Voices;
 
 // ---- rows put where they lie
@@ -306,25 +306,6 @@ pub struct Motion {
     pub idle: bool,
 }
 
-// The motion of a route into a plan, by whether that is per voice and whether a voice is active.
-pub fn motion_of(scene: Scene, view: View, route: Route, voice: bool, sounds: bool) -> Motion
-    ensures { λ r. ⌜ ((t : Env) (x : Mix) → Staged t scene → x .voice ≡ voice → sounds ≡ sounding t → partFor (t .signals) (route .source .read) ≡ view .source → liveAmount t (route .slot) ≡ view .amount → liveOutput t (route .slot) ≡ view .output → Moved t x route r) ⌝ }
-{
-    let voices = scene.voices;
-    let fresh = scene.fresh;
-    let part = view.source;
-    let plain = route::plain(voice, sounds, route, part, scene.stride, scene.up_to);
-    let idle = route::idle(route, view.amount, view.output);
-    Motion {
-        voices,
-        fresh,
-        snap: scene.snap,
-        voice,
-        plain,
-        idle,
-    }
-}
-
 // whether a route's slews move in a lane
 fn moves(motion: Motion, voice: bool, lane: usize) -> bool
     ensures { λ r. ⌜ ((t : Env) (x : Mix) (u : Route) → u .voice ≡ voice → Moved t x u motion → r ≡ movesIn t x u lane) ⌝ }
@@ -453,92 +434,6 @@ pub fn new_route(
     put_row(new, start + 64, aux, VOICES);
 }
 
-// What the slews of a plan's routes are worked out from, besides the lent numbers: the scene, the signals and the sizes, whether the plan is per voice, and whether a
-// voice is active.
-pub struct Stage {
-    pub scene: Scene,
-    pub signals: Signals,
-    pub chunks: usize,
-    pub plans: usize,
-    pub voice: bool,
-    pub sounds: bool,
-}
-
-// the new slews of route j, whose own rows start at `own`, where it has any
-fn new_at(
-    new: &mut [f32],
-    j: usize,
-    own: usize,
-    route: Route,
-    stage: Stage,
-    held: &[f32],
-    globals: &[f32],
-    tables: &[f32],
-    samples: &[f32],
-    values: &[f32],
-)
-    requires { ⌜ Fits (stage .scene) (stage .chunks) (stage .plans) × (own ≤ mostValues) × (j < slots) × (length (now new) ≡ newNeed) ⌝ }
-    ensures { λ _. ⌜ (length (now (new .exit)) ≡ newNeed) × ((p : ℕ) → p < newStart j 0 → at (now (new .exit)) p ≡ at (now (new .entry)) p) × ((t : Env) (x : Mix) (f : Rows) (s : Own) → Seen t (stage .scene) (stage .signals) (now (held .entry)) (now (globals .entry)) (now (tables .entry)) (now (samples .entry)) → IsRows f (pointOf (stage .scene) (stage .chunks)) (now (values .entry)) → IsOwn s j own (stage .scene .stride) (now (values .entry)) → x .route j ≡ route → x .voice ≡ stage .voice → stage .sounds ≡ sounding t → IsNew t x f s j route (now (new .exit))) ⌝ }
-{
-    if still(route) {
-        return;
-    }
-    let scene = stage.scene;
-    let signals = stage.signals;
-    let view = route::view_of(scene, signals, stage.chunks, own, route);
-    let motion = motion_of(scene, view, route, stage.voice, stage.sounds);
-    new_route(
-        new,
-        j,
-        route,
-        view,
-        motion,
-        held,
-        globals,
-        tables,
-        samples,
-        values,
-    );
-}
-
-// the new slews of the first n routes of a plan whose first route is `first`
-fn new_slews(
-    new: &mut [f32],
-    n: usize,
-    first: usize,
-    routes: [Route; SLOTS],
-    stage: Stage,
-    held: &[f32],
-    globals: &[f32],
-    tables: &[f32],
-    samples: &[f32],
-    values: &[f32],
-)
-    requires { ⌜ Fits (stage .scene) (stage .chunks) (stage .plans) × (first + n ≤ slots) × (length (now new) ≡ newNeed) ⌝ }
-    ensures { λ _. ⌜ ((t : Env) (x : Mix) → Seen t (stage .scene) (stage .signals) (now (held .entry)) (now (globals .entry)) (now (tables .entry)) (now (samples .entry)) → Into t x stage routes first → n ≤ x .count → (j : ℕ) → j < n → IsNew t x (planRows (stage .scene .stride) (stage .chunks) (now (values .entry))) (ownRows (stage .scene .stride) (stage .chunks) (stage .plans) first (now (values .entry))) j (x .route j) (now (new .exit))) ⌝ }
-{
-    let stride = stage.scene.stride;
-    let mut j = 0usize;
-    while j < n {
-        let k = first + j;
-        let route = routes[k];
-        let own = route::own_start(stride, stage.chunks, stage.plans, k);
-        new_at(
-            new,
-            j,
-            own,
-            route,
-            stage,
-            held,
-            globals,
-            tables,
-            samples,
-            values,
-        );
-        j += 1;
-    }
-}
-
 // ---- slews put where they lie
 
 // the new slews of route j, whose own rows start at `own`, where it has any
@@ -578,23 +473,6 @@ pub fn put_new(
     }
 }
 
-// whether none of n routes from `first` on has a slew
-fn all_still(routes: [Route; SLOTS], first: usize, n: usize) -> bool
-    requires { ⌜ first + n ≤ slots ⌝ }
-    ensures { λ r. ⌜ r ≡ allStill routes first n ⌝ }
-{
-    let mut j = 0usize;
-    while j < n {
-        let k = first + j;
-        let route = routes[k];
-        if !still(route) {
-            return false;
-        }
-        j += 1;
-    }
-    true
-}
-
 // how many of a plan's routes there are, where its first is there
 pub fn routes_there(first: usize, count: usize) -> usize
     requires { ⌜ first < slots ⌝ }
@@ -612,82 +490,6 @@ pub fn room() -> [f32; NEW]
     ensures { λ r. ⌜ length r ≡ newNeed ⌝ }
 {
     [0.0; NEW]
-}
-
-// the slews of the first n routes of a plan whose first route is `first`
-fn put_all(
-    values: &mut [f32],
-    n: usize,
-    first: usize,
-    routes: [Route; SLOTS],
-    stage: Stage,
-    held: &[f32],
-    globals: &[f32],
-    tables: &[f32],
-    samples: &[f32],
-)
-    requires { ⌜ Fits (stage .scene) (stage .chunks) (stage .plans) × (first + n ≤ slots) ⌝ }
-    ensures { λ _. ⌜ ((t : Env) (x : Mix) (st : State) (d : ℕ) → Seen t (stage .scene) (stage .signals) (now (held .entry)) (now (globals .entry)) (now (tables .entry)) (now (samples .entry)) → Into t x stage routes first → n ≤ x .count → ((j : ℕ) → n ≤ j → j < x .count → slots ≤ first + j) → Lies st d (stage .scene .stride) (stage .chunks) (stage .plans) first → now (values .exit) ≡ putSlews st d (slewAfter t x (planRows (stage .scene .stride) (stage .chunks) (now (values .entry))) (ownRows (stage .scene .stride) (stage .chunks) (stage .plans) first (now (values .entry)))) (x .count) (now (values .entry))) ⌝ }
-{
-    let stride = stage.scene.stride;
-    let mut new = room();
-    new_slews(
-        &mut new,
-        n,
-        first,
-        routes,
-        stage,
-        held,
-        globals,
-        tables,
-        samples,
-        values,
-    );
-    put_new(
-        values,
-        stride,
-        stage.chunks,
-        stage.plans,
-        first,
-        routes,
-        &new,
-        n,
-    );
-}
-
-// the slews of `count` routes from `first` on, where there are such and one has a slew
-fn put_there(
-    values: &mut [f32],
-    first: usize,
-    count: usize,
-    routes: [Route; SLOTS],
-    stage: Stage,
-    held: &[f32],
-    globals: &[f32],
-    tables: &[f32],
-    samples: &[f32],
-)
-    requires { ⌜ Fits (stage .scene) (stage .chunks) (stage .plans) ⌝ }
-    ensures { λ _. ⌜ ((t : Env) (x : Mix) (st : State) (d : ℕ) → Seen t (stage .scene) (stage .signals) (now (held .entry)) (now (globals .entry)) (now (tables .entry)) (now (samples .entry)) → Into t x stage routes first → x .count ≡ count → Lies st d (stage .scene .stride) (stage .chunks) (stage .plans) first → now (values .exit) ≡ putSlews st d (slewAfter t x (planRows (stage .scene .stride) (stage .chunks) (now (values .entry))) (ownRows (stage .scene .stride) (stage .chunks) (stage .plans) first (now (values .entry)))) (x .count) (now (values .entry))) ⌝ }
-{
-    if SLOTS <= first {
-        return;
-    }
-    let n = routes_there(first, count);
-    if all_still(routes, first, n) {
-        return;
-    }
-    put_all(
-        values,
-        n,
-        first,
-        routes,
-        stage,
-        held,
-        globals,
-        tables,
-        samples,
-    );
 }
 
 // The new slews of `count` routes from `first` on, where there are such, put where they lie.
@@ -711,42 +513,22 @@ pub fn put_made(
     put_new(values, stride, chunks, plans, first, routes, new, n);
 }
 
-// The slews of a plan's routes as they are after the plan was worked out from the values as they stand.
-pub fn put_slews(
-    values: &mut [f32],
-    plan: Plan,
-    routes: [Route; SLOTS],
-    scene: Scene,
-    signals: Signals,
-    chunks: usize,
-    plans: usize,
-    held: &[f32],
-    globals: &[f32],
-    tables: &[f32],
-    samples: &[f32],
-)
-    requires { ⌜ Fits scene chunks plans ⌝ }
-    ensures { λ _. ⌜ ((t : Env) (x : Mix) (st : State) (d : ℕ) → Seen t scene signals (now (held .entry)) (now (globals .entry)) (now (tables .entry)) (now (samples .entry)) → IsMix x plan routes → Lies st d (scene .stride) chunks plans (plan .first) → now (values .exit) ≡ putSlews st d (slewAfter t x (planRows (scene .stride) chunks (now (values .entry))) (ownRows (scene .stride) chunks plans (plan .first) (now (values .entry)))) (x .count) (now (values .entry))) ⌝ }
+// The new slews of the routes of a job's plan, put where they lie
+pub fn put_slews(values: &mut [f32], job: Job, new: &[f32])
+    requires { ⌜ Bounded job ⌝ }
+    ensures { λ _. ⌜ ((t : Env) (x : Mix) (st : State) (d : ℕ) → t .stride ≡ job .scene .stride → IsMix x (job .plan) (job .routes) → Lies st d (job .scene .stride) (job .chunks) (job .plans) (job .plan .first) → ((j : ℕ) → j < x .count → j < slots → IsNew t x (planRows (job .scene .stride) (job .chunks) (now (values .entry))) (ownRows (job .scene .stride) (job .chunks) (job .plans) (job .plan .first) (now (values .entry))) j (x .route j) (now (new .entry))) → now (values .exit) ≡ putSlews st d (slewAfter t x (planRows (job .scene .stride) (job .chunks) (now (values .entry))) (ownRows (job .scene .stride) (job .chunks) (job .plans) (job .plan .first) (now (values .entry)))) (x .count) (now (values .entry))) ⌝ }
 {
-    let active = scene.voices.active;
-    let sounds = input::sounding(active, scene.stride);
-    let stage = Stage {
-        scene,
-        signals,
-        chunks,
-        plans,
-        voice: plan.voice,
-        sounds,
-    };
-    put_there(
+    let plan = job.plan;
+    let scene = job.scene;
+    let routes = job.routes;
+    put_made(
         values,
         plan.first,
         plan.count,
         routes,
-        stage,
-        held,
-        globals,
-        tables,
-        samples,
+        scene.stride,
+        job.chunks,
+        job.plans,
+        new,
     );
 }

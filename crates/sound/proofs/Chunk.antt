@@ -2,7 +2,7 @@
 use mathlib.Core.Path.{_≡_, refl, sym, ap, ap₂, _∙_, subst}
 use mathlib.Core.Bool.{_&&_}
 use mathlib.Core.List.{List}
-use Prim.Native.Nat.{ℕ, zero, suc, _+_, _-_, _*_, _≤_}
+use Prim.Native.Nat.{ℕ, zero, suc, _+_, _-_, _*_, _≤_, _<_}
 use native.Mathlib.Nat.{zero-add, add-mul}
 use native.Mathlib.Numerals.{add-one}
 use native.Mathlib.Omega.{arith}
@@ -27,6 +27,8 @@ use Rattle.route.specs.View.{ownRows}
 use Rattle.sum.specs.declared.Job.{Job}
 use Rattle.sum.specs.Job.{laneCount, IsMix, Sums}
 use Rattle.sum.proofs.Jobs.{plan-mix, job-sums, job-width}
+use Rattle.config.specs.Sizes.{slots}
+use Rattle.slewing.specs.Put.{IsNew}
 use Rattle.slewing.specs.Rows.{IsRow}
 use Rattle.slewing.specs.Seen as S
 use Rattle.sound.specs.declared.Work.{Work}
@@ -41,9 +43,6 @@ module _ (st : State) (d : ℕ) (w : Job) (o : Of st d w) where
   is-mix =
       subst (λ (r : List Route). IsMix (planMix st d) (w .plan) r) (o .routes)
       (subst (λ (p : Plan). IsMix (planMix st d) p (st .program .route)) (o .plan) (plan-mix st d))
-
-  slew-mix : S.IsMix (planMix st d) (w .plan) (w .routes)
-  slew-mix = record { voice = is-mix .voice; count = is-mix .count; route = is-mix .route }
 
   lies : S.Lies st d (w .scene .stride) (w .chunks) (w .plans) (w .plan .first)
   lies = record { stride = o .stride; chunks = o .chunks; plans = o .plans; first = ap (λ (p : Plan). p .first) (o .plan) }
@@ -66,18 +65,6 @@ module _ (st : State) (d : ℕ) (w : Job) (o : Of st d w) where
   width-is = sym (ap₂ planWidth (o .stride) (ap (λ (p : Plan). p .voice) (o .plan)))
 
   module _ (h g a b i : List Float) where
-    seen : S.Seen (jobEnv w h g a b i) (w .scene) (w .signals) h g b i
-    seen =
-        record {
-          scene =
-              record { stride = refl; voices = refl; fresh = refl; gains = refl; frame = refl; upTo = refl; steps = refl; snap = refl };
-          signals = refl;
-          held = refl;
-          globals = refl;
-          tables = refl;
-          samples = refl;
-        }
-
     -- the row put, and the slews
     frame-put : (t : Env) (start n : ℕ) (v u v′ u′ row : List Float) → laneCount w ≡ widthOf t (planMix st d) → n ≡ laneCount w
         → v′ ≡ putSlews st d (slewAfter t (planMix st d) (rows v) (owns v)) (planMix st d .count) v
@@ -97,17 +84,19 @@ module _ (st : State) (d : ℕ) (w : Job) (o : Of st d w) where
         ∙ ap₂ (λ (f : Rows) (s : Own). fillFrom u start (new f s) (widthOf t x)) (rows-are v) (owns-are v))
 
     -- THE FRAME, by what its parts say
-    pub frame-done : (start n : ℕ) (v u v′ u′ old row : List Float) → n ≡ laneCount w → IsRow n (lanesFrom u start) old
-        → ((t : Env) (f : Rows) (s : Own) (x : Mix) (q : ℕ → Float) → Sums t f s x w h g a b i v → IsRow (laneCount w) q old → IsRow (laneCount w) (newAudio t x f s q) row)
-        → ((t : Env) (x : Mix) (st : State) (d : ℕ) → S.Seen t (w .scene) (w .signals) h g b i → S.IsMix x (w .plan) (w .routes)
-        → S.Lies st d (w .scene .stride) (w .chunks) (w .plans) (w .plan .first) → v′ ≡ putSlews st d (slewAfter t x (rows v) (owns v)) (x .count) v)
+    pub frame-done : (start n : ℕ) (v u v′ u′ old row new : List Float) → n ≡ laneCount w → IsRow n (lanesFrom u start) old
+        → ((t : Env) (f : Rows) (s : Own) (x : Mix) → Sums t f s x w h g a b i v
+        → ((q : ℕ → Float) → IsRow (laneCount w) q old → IsRow (laneCount w) (newAudio t x f s q) row) × ((j : ℕ) → j < x .count → j < slots → IsNew t x f s j (x .route j) new))
+        → ((t : Env) (x : Mix) (st : State) (d : ℕ) → t .stride ≡ w .scene .stride → IsMix x (w .plan) (w .routes) → S.Lies st d (w .scene .stride) (w .chunks) (w .plans) (w .plan .first)
+        → ((j : ℕ) → j < x .count → j < slots → IsNew t x (rows v) (owns v) j (x .route j) new) → v′ ≡ putSlews st d (slewAfter t x (rows v) (owns v)) (x .count) v)
         → u′ ≡ fillFrom u start (at row) n → sounds v′ u′ ≡ rowFrame st (jobEnv w h g a b i) d start (sounds v u)
-    frame-done start n v u v′ u′ old row many was new slews put =
+    frame-done start n v u v′ u′ old row new many was made slews put =
         let x : Mix = planMix st d in
         let t : Env = jobEnv w h g a b i in
         let sums : Sums t (rows v) (owns v) x w h g a b i v = job-sums w x h g a b i v is-mix in
-        frame-put t start n v u v′ u′ row (job-width (sums .mixes .job)) many (slews t x st d seen slew-mix lies) put
-        (new t (rows v) (owns v) x (lanesFrom u start) sums (λ l b. was l (omega arith)))
+        let all = made t (rows v) (owns v) x sums in
+        frame-put t start n v u v′ u′ row (job-width (sums .mixes .job)) many (slews t x st d refl is-mix lies (all .1)) put
+        (all .0 (lanesFrom u start) (λ l b. was l (omega arith)))
 
     -- ---- frame after frame
 

@@ -18,6 +18,7 @@ ghost use Rattle.model.specs.Lanes.{inSpan};
 ghost use Rattle.model.specs.Layout.{audioRow};
 ghost use Rattle.model.specs.Mix.{Mix};
 ghost use Rattle.model.specs.Tick.{lanesFrom};
+ghost use Rattle.slewing.specs.Put.{newNeed, IsNew};
 ghost use Rattle.slewing.specs.Rows.{IsRow};
 ghost use Rattle.sum.specs.Job.{Bounded, laneCount, baseBy, IsScene, IsJob, Sums};
 ghost use Rattle.sweep.specs.Leads.{Swept};
@@ -104,10 +105,12 @@ fn bounded(min: f32, max: f32) -> bool
 fn whole_plain(job: Job) -> bool
     ensures { λ r. ⌜ ((t : Env) (x : Mix) → IsJob t x job → r ≡ wholePlain t x) ⌝ }
 {
-    if !sum::some_plain(job) {
+    let all = sum::totals_of(job);
+    let some = all.some;
+    if !some {
         return false;
     }
-    sum::all_plain(job)
+    all.all
 }
 
 // x held to the bounds; where every route is plain, only in the active span
@@ -144,8 +147,9 @@ fn hold_lanes(job: Job, whole: bool, row: [f32; VOICES]) -> [f32; VOICES]
     out
 }
 
-// The numbers of a destination at a frame, in each lane of its row, where `old` stands there.
+// The numbers of a destination at a frame, in each lane of its row, where `old` stands there, and the new slews of its routes.
 pub fn new_row(
+    new: &mut [f32],
     job: Job,
     old: [f32; VOICES],
     held: &[f32],
@@ -155,10 +159,10 @@ pub fn new_row(
     samples: &[f32],
     values: &[f32],
 ) -> [f32; VOICES]
-    requires { ⌜ Bounded job ⌝ }
-    ensures { λ r. ⌜ ((t : Env) (f : Rows) (s : Own) (x : Mix) (o : ℕ → Float) → Sums t f s x job (now (held .entry)) (now (globals .entry)) (now (bases .entry)) (now (tables .entry)) (now (samples .entry)) (now (values .entry)) → IsRow (laneCount job) o old → IsRow (laneCount job) (newAudio t x f s o) r) ⌝ }
+    requires { ⌜ Bounded job × (length (now new) ≡ newNeed) ⌝ }
+    ensures { λ r. ⌜ ((t : Env) (f : Rows) (s : Own) (x : Mix) → Sums t f s x job (now (held .entry)) (now (globals .entry)) (now (bases .entry)) (now (tables .entry)) (now (samples .entry)) (now (values .entry)) → ((o : ℕ → Float) → IsRow (laneCount job) o old → IsRow (laneCount job) (newAudio t x f s o) r) × ((j : ℕ) → j < x .count → j < slots → IsNew t x f s j (x .route j) (now (new .exit)))) ⌝ }
 {
-    let row = sum::audio_row(job, old, held, globals, bases, tables, samples, values);
+    let row = mixing::mix_audio(new, job, old, held, globals, bases, tables, samples, values);
     let plan = job.plan;
     if !bounded(plan.min, plan.max) {
         return row;
@@ -169,10 +173,11 @@ pub fn new_row(
 
 // ---- one frame
 
-// The row of a plan at a frame, which starts there, and the plan's slews.
+// The row of a plan at a frame, which starts there, and the plan's slews; `new` is room for them.
 pub fn frame(
     values: &mut [f32],
     audio: &mut [f32],
+    new: &mut [f32],
     job: Job,
     start: usize,
     held: &[f32],
@@ -181,29 +186,13 @@ pub fn frame(
     tables: &[f32],
     samples: &[f32],
 )
-    requires { ⌜ Bounded job ⌝ }
+    requires { ⌜ Bounded job × (length (now new) ≡ newNeed) ⌝ }
     ensures { λ _. ⌜ ((st : State) (d : ℕ) → Of st d job → sounds (now (values .exit)) (now (audio .exit)) ≡ rowFrame st (jobEnv job (now (held .entry)) (now (globals .entry)) (now (bases .entry)) (now (tables .entry)) (now (samples .entry))) d start (sounds (now (values .entry)) (now (audio .entry)))) ⌝ }
 {
-    let plan = job.plan;
-    let routes = job.routes;
-    let scene = job.scene;
-    let signals = job.signals;
     let n = sum::lane_count(job);
     let old = old_row(audio, start, n);
-    let row = new_row(job, old, held, globals, bases, tables, samples, values);
-    slewing::put_slews(
-        values,
-        plan,
-        routes,
-        scene,
-        signals,
-        job.chunks,
-        job.plans,
-        held,
-        globals,
-        tables,
-        samples,
-    );
+    let row = new_row(new, job, old, held, globals, bases, tables, samples, values);
+    slewing::put_slews(values, job, new);
     slewing::put_row(audio, start, row, n);
 }
 
@@ -248,10 +237,11 @@ fn row_at(width: usize, n: usize) -> usize
     n * width
 }
 
-// The rows of a plan in a chunk, of which the first is at the start of the audio that is lent, and the plan's slews.
+// The rows of a plan in a chunk, of which the first is at the start of the audio that is lent, and the plan's slews; `new` is room for them.
 pub fn frames(
     values: &mut [f32],
     audio: &mut [f32],
+    new: &mut [f32],
     job: Job,
     chunk: Chunk,
     held: &[f32],
@@ -260,7 +250,7 @@ pub fn frames(
     tables: &[f32],
     samples: &[f32],
 )
-    requires { ⌜ Bounded job × (chunk .start + chunk .len ≤ 4096) ⌝ }
+    requires { ⌜ Bounded job × (chunk .start + chunk .len ≤ 4096) × (length (now new) ≡ newNeed) ⌝ }
     ensures { λ _. ⌜ ((st : State) (d : ℕ) → Of st d job → sounds (now (values .exit)) (now (audio .exit)) ≡ rowFrames st (jobEnv job (now (held .entry)) (now (globals .entry)) (now (bases .entry)) (now (tables .entry)) (now (samples .entry))) chunk d 0 (chunk .len) (sounds (now (values .entry)) (now (audio .entry)))) ⌝ }
 {
     let width = sum::lane_count(job);
@@ -272,6 +262,7 @@ pub fn frames(
         frame(
             values,
             audio,
+            new,
             here,
             start,
             held,
@@ -356,9 +347,11 @@ pub fn plan_frames(
     let width = sum::lane_count(job);
     let a = audio_at(stride, work.frames, d, width, chunk.start);
     let e = a + row_at(width, chunk.len);
+    let mut new = slewing::room();
     frames(
         values,
         &mut audio[a..e],
+        &mut new,
         job,
         chunk,
         held,

@@ -15,11 +15,11 @@ ghost use Rattle.model.specs.Env.{Env, Rows, Own, noPart, sampleIn};
 ghost use Rattle.model.specs.Lanes.{anyFrom, groupOf, inGroup, addend, inSpan};
 ghost use Rattle.model.specs.Mix.{Mix};
 ghost use Rattle.model.specs.RouteValue.{rawIn, routeValue, plain};
-ghost use Rattle.model.specs.Sums.{baseIn, offsets, allPlain, hasPlain, plainStep, plains, addLane, otherStep, others, begun, audioBegun, audioSum};
+ghost use Rattle.model.specs.Sums.{baseIn, offsets, plainStep, plains, addLane, otherStep, begun, audioBegun};
 ghost use Rattle.input.specs.Lane.{laneOf};
 ghost use Rattle.input.specs.Reads.{Works, partFor, pointOf};
 ghost use Rattle.route.specs.View.{mostValues, Placed, auxPart, Viewed};
-ghost use Rattle.sum.specs.Job.{Bounded, laneCount, slotGain, baseBy, IsScene, IsJob, Mixes, Sums, Shown};
+ghost use Rattle.sum.specs.Job.{Bounded, laneCount, slotGain, baseBy, IsScene, IsJob, Mixes, Shown};
 ghost use Rattle.sum.specs.Ground.{Based, groundOf, Chosen, partKey, auxKey, ownBy, viewBy, Inside, Tells, Spanned, Reached, Totalled};
 use config::LANES;
 use config::SLOTS;
@@ -425,22 +425,6 @@ pub fn totals_of(job: Job) -> Totals
         j += 1;
     }
     out
-}
-
-// Whether there is a plain route.
-pub fn some_plain(job: Job) -> bool
-    ensures { λ r. ⌜ ((t : Env) (x : Mix) → IsJob t x job → r ≡ hasPlain t x) ⌝ }
-{
-    let all = totals_of(job);
-    all.some
-}
-
-// Whether every route is plain.
-pub fn all_plain(job: Job) -> bool
-    ensures { λ r. ⌜ ((t : Env) (x : Mix) → IsJob t x job → r ≡ allPlain t x (x .count)) ⌝ }
-{
-    let all = totals_of(job);
-    all.all
 }
 
 // ---- the active span
@@ -1208,61 +1192,6 @@ fn groups_of(active: [bool; VOICES]) -> [bool; GROUPS]
     [a, b, c, d]
 }
 
-// every other route added
-fn add_others(
-    job: Job,
-    row: [f32; VOICES],
-    held: &[f32],
-    globals: &[f32],
-    tables: &[f32],
-    samples: &[f32],
-    values: &[f32],
-) -> [f32; VOICES]
-    requires { ⌜ Bounded job ⌝ }
-    ensures { λ r. ⌜ ((t : Env) (f : Rows) (s : Own) (x : Mix) → Mixes t f s x job (now (held .entry)) (now (globals .entry)) (now (samples .entry)) (now (values .entry)) → Works t (pointOf (job .scene) (job .chunks)) (now (tables .entry)) → (l : ℕ) → l < laneCount job → at r l ≡ others t f s x l (at row l) (x .count)) ⌝ }
-{
-    let ground = ground_of(job);
-    let reach = reach_of(job);
-    let plan = job.plan;
-    let count = counted(plan.count);
-    let routes = routes_of(job);
-    let signals = job.signals;
-    let parts = parts_of(signals);
-    let first = plan.first;
-    let mut out = row;
-    let mut j = 0usize;
-    while j < count {
-        let i = route_index(first, j);
-        let stored = routes[i];
-        let route = route_or(first, j, stored);
-        let key = source_key(route);
-        let k = part_index(key);
-        let kept = parts[k];
-        let source = part_or(key, kept);
-        let other = route_aux_key(route);
-        let m = part_index(other);
-        let spare = parts[m];
-        let aux = part_or(other, spare);
-        let next = add_other(
-            ground,
-            reach,
-            j,
-            route,
-            source,
-            aux,
-            out,
-            held,
-            globals,
-            tables,
-            samples,
-            values,
-        );
-        out = next;
-        j += 1;
-    }
-    out
-}
-
 // ---- the sum
 
 // what the others are added to at a tick
@@ -1288,7 +1217,7 @@ pub fn tick_begun(
 }
 
 // what the others are added to in audio, where `old` stands in the row
-fn audio_begun(
+pub fn audio_begun(
     job: Job,
     base: f32,
     old: [f32; VOICES],
@@ -1307,23 +1236,4 @@ fn audio_begun(
         return [base; VOICES];
     }
     plain_row(job, base + offset, old, held, globals, samples, values)
-}
-
-// The sum of a destination in audio, in each lane of its row, where `old` stands there.
-pub fn audio_row(
-    job: Job,
-    old: [f32; VOICES],
-    held: &[f32],
-    globals: &[f32],
-    bases: &[f32],
-    tables: &[f32],
-    samples: &[f32],
-    values: &[f32],
-) -> [f32; VOICES]
-    requires { ⌜ Bounded job ⌝ }
-    ensures { λ r. ⌜ ((t : Env) (f : Rows) (s : Own) (x : Mix) → Sums t f s x job (now (held .entry)) (now (globals .entry)) (now (bases .entry)) (now (tables .entry)) (now (samples .entry)) (now (values .entry)) → (l : ℕ) → l < laneCount job → at r l ≡ audioSum t f s x (at old l) l) ⌝ }
-{
-    let base = base_in(job, globals, bases);
-    let row = audio_begun(job, base, old, held, globals, samples, values);
-    add_others(job, row, held, globals, tables, samples, values)
 }

@@ -59,15 +59,15 @@ module _ (st : State) (t : Env) (d : ℕ) (w : Job) (m h g a b i : List Float) (
   abbrev ownBy : Own
   ownBy = ownRows (w .scene .stride) (w .chunks) (w .plans) (w .plan .first) m
 
-  mix : IsMix (planMix st d) (w .plan) (w .routes)
-  mix = mix-of st d (of .plan) (of .routes)
+  pub mix-is : IsMix (planMix st d) (w .plan) (w .routes)
+  mix-is = mix-of st d (of .plan) (of .routes)
 
   pub sums-of : Sums t rowsBy ownBy (planMix st d) w h g a b i m
   sums-of =
       record {
         mixes =
             record {
-              job = record { scene = k .scene; mix = mix };
+              job = record { scene = k .scene; mix = mix-is };
               reads =
                   record {
                     stride = k .scene .stride;
@@ -83,35 +83,11 @@ module _ (st : State) (t : Env) (d : ℕ) (w : Job) (m h g a b i : List Float) (
         bases = k .bases;
       }
 
-  pub seen-of : S.Seen t (w .scene) (w .signals) h g b i
-  seen-of =
-      record {
-        scene =
-            record {
-              stride = k .scene .stride;
-              voices = k .scene .voices;
-              fresh = k .scene .fresh;
-              gains = k .scene .gains;
-              frame = k .scene .frame;
-              upTo = k .scene .upTo;
-              steps = k .scene .steps;
-              snap = k .scene .snap;
-            };
-        signals = k .scene .signals;
-        held = k .held;
-        globals = k .globals;
-        tables = k .tables;
-        samples = k .samples;
-      }
-
-  pub mix-is : S.IsMix (planMix st d) (w .plan) (w .routes)
-  mix-is = record { voice = mix .voice; count = mix .count; route = mix .route }
-
   pub lies-of : S.Lies st d (w .scene .stride) (w .chunks) (w .plans) (w .plan .first)
   lies-of = record { stride = of .stride; chunks = of .chunks; plans = of .plans; first = ap (λ (y : Plan). y .first) (of .plan) }
 
   pub ticks-of : (phase : ℕ) {y : Tick} → y ≡ tickBy (w .scene) phase w → S.Ticks t (planMix st d) y
-  ticks-of phase e = rw e (record { primed = k .scene .primed; snap = k .scene .snap; fresh = k .scene .fresh; voice = mix .voice })
+  ticks-of phase e = rw e (record { primed = k .scene .primed; snap = k .scene .snap; fresh = k .scene .fresh; voice = mix-is .voice })
 
   -- ---- the turn
 
@@ -146,7 +122,7 @@ module _ (st : State) (t : Env) (d : ℕ) (w : Job) (m h g a b i : List Float) (
   to-is = sym (ap (λ (y : ℕ). planTo y (chunksMost st) d) (of .stride) ∙ ap (λ (y : ℕ). planTo (w .scene .stride) y d) (of .chunks))
 
   width-is : laneCount w ≡ widthOf t (planMix st d)
-  width-is = job-width {t = t} {x = planMix st d} {w = w} (record { scene = k .scene; mix = mix })
+  width-is = job-width {t = t} {x = planMix st d} {w = w} (record { scene = k .scene; mix = mix-is })
 
   narrow : widthOf t (planMix st d) ≤ strideOf st
   narrow = rw (k .scene .stride ∙ sym (of .stride)) (width-most (strideOf st) (planAt st d .voice) (stride-least (voiceCount st)))

@@ -10,13 +10,11 @@ ghost use Rattle.config.specs.Sizes.{slots};
 ghost use Rattle.state.specs.declared.State.{State};
 ghost use Rattle.model.specs.Env.{Env, Rows, Own};
 ghost use Rattle.model.specs.Mix.{Mix};
-ghost use Rattle.model.specs.Tick.{heldSum, putSlews, slewAfter, turn, turns, tickOf};
-ghost use Rattle.input.specs.Reads.{planRows};
-ghost use Rattle.route.specs.View.{ownRows};
+ghost use Rattle.model.specs.Tick.{heldSum, turn, turns, tickOf};
 ghost use Rattle.sum.specs.Job.{Bounded, laneCount, Sums};
 ghost use Rattle.slewing.specs.Put.{newNeed, IsNew};
 ghost use Rattle.slewing.specs.Rows.{IsRow};
-ghost use Rattle.slewing.specs.Seen.{Fits, Seen, IsMix, Lies};
+ghost use Rattle.slewing.specs.Seen.{Fits};
 ghost use Rattle.tick.specs.Turn.{Given, IsTurn, jobOf, IsTick};
 ghost use Rattle.tick.specs.Rounds.{Sized, IsRound, IsLed, AreBases, Works};
 use config::SLOTS;
@@ -49,26 +47,6 @@ pub fn held_sums(
     slewing::hold_row(sums, plan.min, plan.max, n)
 }
 
-// the new slews of the routes of a job's plan, put where they lie
-fn put_slews(values: &mut [f32], job: Job, new: &[f32])
-    requires { ⌜ Bounded job ⌝ }
-    ensures { λ _. ⌜ ((t : Env) (x : Mix) (st : State) (d : ℕ) → t .stride ≡ job .scene .stride → IsMix x (job .plan) (job .routes) → Lies st d (job .scene .stride) (job .chunks) (job .plans) (job .plan .first) → ((j : ℕ) → j < x .count → j < slots → IsNew t x (planRows (job .scene .stride) (job .chunks) (now (values .entry))) (ownRows (job .scene .stride) (job .chunks) (job .plans) (job .plan .first) (now (values .entry))) j (x .route j) (now (new .entry))) → now (values .exit) ≡ putSlews st d (slewAfter t x (planRows (job .scene .stride) (job .chunks) (now (values .entry))) (ownRows (job .scene .stride) (job .chunks) (job .plans) (job .plan .first) (now (values .entry)))) (x .count) (now (values .entry))) ⌝ }
-{
-    let plan = job.plan;
-    let scene = job.scene;
-    let routes = job.routes;
-    slewing::put_made(
-        values,
-        plan.first,
-        plan.count,
-        routes,
-        scene.stride,
-        job.chunks,
-        job.plans,
-        new,
-    );
-}
-
 // The turn of plan d, whose job this is; `new` is room for its new slews.
 pub fn turn(
     values: &mut [f32],
@@ -94,7 +72,7 @@ pub fn turn(
     let sums = held_sums(new, job, held, globals, bases, tables, samples, values);
     let starts = slewing::from_row(tick, sums, values, to, from, n);
     let ends = slewing::to_row(tick, sums, values, to, n);
-    put_slews(values, job, new);
+    slewing::put_slews(values, job, new);
     slewing::put_row(values, from, starts, n);
     slewing::put_row(values, to, ends, n);
 }

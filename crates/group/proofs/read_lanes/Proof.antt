@@ -1,61 +1,74 @@
--- `group::read_lanes` meets its contract. The invariant: the lanes below l are done.
-use mathlib.Core.Path.{_≡_, refl}
-use Prim.Native.Nat.{ℕ, _+_, _-_, _*_, _≤_, _<_}
-use native.Mathlib.Omega.{arith}
-use lib.ListN.{length}
-use lib.Ieee.{Float, ofBits}
-use Rattle.sum.proofs.Lanes.{Laned, laned-none, laned-more}
+-- `group::read_lanes` meets its contract.
+use Prim.Native.Nat.{_+_}
+use Rattle.model.specs.RouteValue.{ownAt}
+use Rattle.input.proofs.Reading.{signal-read}
 use borrow.Author.Needs.{needs}
-use Rattle.model.specs.Env.{Env, Rows, Own}
-use Rattle.group.specs.Told.{readAt, Told}
 use Rattle.group.proofs.read_lanes.Statement.{statement}
 use Rattle.group.proofs.read_lanes.Tie as tie
 
-abbrev Inv-loop : tie.InvT-loop
-Inv-loop read view part position lane held globals samples values out₀ l₀ out l = (l ≤ 16) × (length out₀ ≡ 16) × Laned (λ (i : ℕ) (y z : Float). (t : Env) (f : Rows) (s : Own) (j : ℕ) → Told t f s j view read part held globals samples values → z ≡ readAt t f s j position read (lane + i)) l out₀ out
+enum-known-read : tie.Need-enum-known-read
+enum-known-read c = search needs
 
-abbrev μ-loop : tie.MeasureT-loop
-μ-loop read view part position lane held globals samples values out₀ l₀ out l = 16 - l
+sample-lanes-requires : tie.Need-sample-lanes-requires
+sample-lanes-requires c κs = search needs
 
-loop-holds : tie.Need-loop-holds Inv-loop μ-loop
-loop-holds c = (search needs, search needs, laned-none _ _)
+enum-told : tie.Need-enum-told
+enum-told c = search needs
 
-add-read-lane : tie.Need-add-read-lane Inv-loop μ-loop
-add-read-lane c = search needs
+read-each-requires : tie.Need-read-each-requires
+read-each-requires c κs = search needs
 
-read-lane-requires : tie.Need-read-lane-requires Inv-loop μ-loop
-read-lane-requires c κs = search needs
+enum-told-2 : tie.Need-enum-told-2
+enum-told-2 c = search needs
 
-mul-out : tie.Need-mul-out Inv-loop μ-loop
-mul-out c = search needs
+read-each-requires-2 : tie.Need-read-each-requires-2
+read-each-requires-2 c κs = search needs
 
-array-write-out : tie.Need-array-write-out Inv-loop μ-loop
-array-write-out c = search needs
+enum-told-3 : tie.Need-enum-told-3
+enum-told-3 c = search needs
 
-add-l : tie.Need-add-l Inv-loop μ-loop
-add-l c = search needs
+read-each-requires-3 : tie.Need-read-each-requires-3
+read-each-requires-3 c κs = search needs
 
-loop-less : tie.Need-loop-less Inv-loop μ-loop
-loop-less c = omega arith
+enum-told-4 : tie.Need-enum-told-4
+enum-told-4 c = search needs
 
-loop-again : tie.Need-loop-again Inv-loop μ-loop
-loop-again c = let i = c .before .before .loop in (omega arith, i .inv .1, laned-more (i .inv .2) (omega arith) (c .read-lane .ensures))
+read-each-requires-4 : tie.Need-read-each-requires-4
+read-each-requires-4 c κs = search needs
 
-returns : tie.Need-returns Inv-loop μ-loop
-returns c = λ t f s j e l h. c .before .loop .inv .2 .done l (omega arith) t f s j e
+returns : tie.Need-returns
+returns c =
+    let a = c .before .before .before .before .before .before .before .before .args in
+    λ t f s j e l h. signal-read (e .reads) (ownAt t s j (2 + a .position) (a .lane + l)) (a .lane + l) _ (c .before .before .read .given .1) (e .part) (c .sample-lanes .ensures l h)
+
+returns-2 : tie.Need-returns-2
+returns-2 c = search needs
+
+returns-3 : tie.Need-returns-3
+returns-3 c = search needs
+
+returns-4 : tie.Need-returns-4
+returns-4 c = search needs
+
+returns-5 : tie.Need-returns-5
+returns-5 c = search needs
 
 pub read-lanes-spec : {M : Type 1} → statement M
 read-lanes-spec =
     tie.close
     (tie.spec
-    Inv-loop
-    μ-loop
-    loop-holds
-    add-read-lane
-    read-lane-requires
-    mul-out
-    array-write-out
-    add-l
-    loop-less
-    loop-again
-    returns)
+    enum-known-read
+    sample-lanes-requires
+    enum-told
+    read-each-requires
+    enum-told-2
+    read-each-requires-2
+    enum-told-3
+    read-each-requires-3
+    enum-told-4
+    read-each-requires-4
+    returns
+    returns-2
+    returns-3
+    returns-4
+    returns-5)

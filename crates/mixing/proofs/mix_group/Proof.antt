@@ -21,7 +21,7 @@ returns c = let a = c .before .before .before .before .before .before .before .b
     let k = c .before .before .keep-group .ensures in (
       k .0,
       record { long = refl; left = λ l h. refl; rest = λ l h. refl },
-      λ t f s n e v w d x. (rw off (k .1 t f s (a .route) (w .own)), λ l h. rw off),
+      λ t f s n e v w d x. (rw off (k .1 t f s (w .own)), λ l h. rw off),
     )
 
 snap-lanes-requires : tie.Need-snap-lanes-requires

@@ -5,10 +5,16 @@ use Prim.Native.Nat.{ℕ, _+_, _≤_}
 use native.Mathlib.Omega.{arith}
 use Rattle.model.specs.RouteValue.{rawIn, sourceIn}
 use Rattle.mixing.specs.Mixed.{slewBy}
-use Rattle.mixing.proofs.Laws.{two-apart, two-done, source-by, aux-by}
+use Rattle.mixing.proofs.Laws.{two-apart, two-done, source-by, aux-by, still-none}
 use borrow.Author.Needs.{needs}
 use Rattle.mixing.proofs.put_group.Statement.{statement}
 use Rattle.mixing.proofs.put_group.Tie as tie
+
+still-requires : tie.Need-still-requires
+still-requires c κs = search needs
+
+returns : tie.Need-returns
+returns c = (record { long = refl; left = λ p h. refl; below = λ q l h k. refl }, λ t f s own ld wi. still-none (c .before .before .before .before .args .route) (c .before .still .ensures) (c .if1 .taken))
 
 mul-start : tie.Need-mul-start
 mul-start c = search needs
@@ -40,8 +46,8 @@ put-to-requires-2 c κs = search needs
 same-length : tie.Need-same-length
 same-length c = search needs
 
-returns : tie.Need-returns
-returns c = let o = c .before .before .before .before .before .before .before .before .before .before .before .before .before .before .before in
+returns-2 : tie.Need-returns-2
+returns-2 c = let o = c .before .before .before .before .before .before .before .before .before .before .before .before .before .before .before .before .before in
     let a = o .args in
     let r = a .route in
     let one = c .before .before .before .before .before .before .before .before .put-to .ensures in
@@ -58,6 +64,8 @@ pub put-group-spec : {M : Type 1} → statement M
 put-group-spec =
     tie.close
     (tie.spec
+    still-requires
+    returns
     mul-start
     add-start
     input-free-requires
@@ -68,4 +76,4 @@ put-group-spec =
     add-put-to
     put-to-requires-2
     same-length
-    returns)
+    returns-2)

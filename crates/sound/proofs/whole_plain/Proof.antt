@@ -4,17 +4,14 @@ use Rattle.sound.proofs.Numbers.{whole-none, whole-all}
 use Rattle.sound.proofs.whole_plain.Statement.{statement}
 use Rattle.sound.proofs.whole_plain.Tie as tie
 
-some-plain-requires : tie.Need-some-plain-requires
-some-plain-requires c κs = search needs
+totals-of-requires : tie.Need-totals-of-requires
+totals-of-requires c κs = search needs
 
 returns : tie.Need-returns
-returns c = λ t x k. whole-none t x (c .before .some-plain .ensures t x k) (c .if1 .taken)
-
-all-plain-requires : tie.Need-all-plain-requires
-all-plain-requires c κs = search needs
+returns c = λ t x k. whole-none t x (c .before .totals-of .ensures t x k .some) (c .if1 .taken)
 
 returns-2 : tie.Need-returns-2
-returns-2 c = λ t x k. whole-all t x (c .before .before .some-plain .ensures t x k) (c .before .if1 .left) (c .all-plain .ensures t x k)
+returns-2 c = λ t x k. let all = c .before .totals-of .ensures t x k in whole-all t x (all .some) (c .if1 .left) (all .all)
 
 pub whole-plain-spec : {M : Type 1} → statement M
-whole-plain-spec = tie.close (tie.spec some-plain-requires returns all-plain-requires returns-2)
+whole-plain-spec = tie.close (tie.spec totals-of-requires returns returns-2)

@@ -5,7 +5,7 @@ use Prim.Native.Nat.{_+_}
 use Rattle.model.specs.Mix.{planMix}
 use Rattle.input.specs.Reads.{planRows}
 use Rattle.route.specs.View.{ownRows}
-use Rattle.tick.proofs.Turned.{row-wide, sums-of, seen-of, mix-is, lies-of, ticks-of, turn-of}
+use Rattle.tick.proofs.Turned.{row-wide, sums-of, mix-is, lies-of, ticks-of, turn-of}
 use Rattle.tick.proofs.turn.Statement.{statement}
 use Rattle.tick.proofs.turn.Tie as tie
 
@@ -76,7 +76,7 @@ returns c =
     refl
     (starts .from-row .ensures t x f s by held)
     (ends .to-row .ensures t x f s by held)
-    (slews .put-slews .ensures t x st (a .d) (seen-of st t (a .d) w m _ _ _ _ _ of k .scene .stride) (mix-is st t (a .d) w m _ _ _ _ _ of k) (lies-of st t (a .d) w m _ _ _ _ _ of k) (both .1))
+    (slews .put-slews .ensures t x st (a .d) (k .scene .stride) (mix-is st t (a .d) w m _ _ _ _ _ of k) (lies-of st t (a .d) w m _ _ _ _ _ of k) (both .1))
     (row .put-row .ensures)
     (rows .put-row2 .ensures)
 
