@@ -5,10 +5,10 @@ ghost use mathlib.Core.Bool.{true, cond};
 ghost use mathlib.Core.List.{List};
 ghost use Prim.Native.Nat.{ℕ, _+_, _*_, _≤_, _<_};
 ghost use lib.Dec.{ltb};
-ghost use lib.ListN.{length};
-ghost use lib.Ieee.{Float};
+ghost use lib.ListN.{length, getD};
+ghost use lib.Ieee.{Float, le};
 ghost use Rattle.config.specs.Sizes.{lanes};
-ghost use Rattle.number.specs.Number.{zero32, one32, plus, less, times, nearest32};
+ghost use Rattle.number.specs.Number.{zero32, one32, plus, less, times, wholePart, nearest32};
 ghost use Rattle.list.specs.Rows.{rowAt};
 ghost use Rattle.table.specs.Table.{points, position, cellAt, between, lookupOf};
 ghost use Rattle.slew.specs.Slew.{slewStep};
@@ -21,6 +21,7 @@ ghost use Rattle.input.specs.Reads.{Sized, IsRows, Reads, Works};
 ghost use Rattle.route.specs.View.{mostValues, Placed, IsOwn, Viewed};
 ghost use Rattle.sum.specs.Ground.{Inside, Tells};
 ghost use Rattle.group.specs.Told.{readAt, Told, Stands, AuxStands, bare, leadIn, Snaps, Leads, Withs};
+ghost use Rattle.group.specs.Cells.{last32, Celled};
 use config::LANES;
 use config::VOICES;
 use input::Point;
@@ -380,44 +381,74 @@ fn positions(row: [f32; LANES]) -> [f32; LANES]
     out
 }
 
-// the cell of a position, by the bits of a position from 1 on and below 512
-fn cell(p: f32) -> usize
-    ensures { λ r. ⌜ r ≡ cellAt p ⌝ }
+// the whole part of a number from 0 to 511, by the bits of its sum with 512
+fn whole(x: f32) -> u32
+    requires { ⌜ (le zero32 x ≡ true) × (le x last32 ≡ true) ⌝ }
+    ensures { λ r. ⌜ (r ≡ wholePart x) × (r < 512) ⌝ }
 {
-    if p >= 1.0 {
-        if p < 512.0 {
-            let bits: u32 = f32::to_bits(p);
-            let exponent: u32 = bits >> 23;
-            let digits: u32 = (bits & 0x7f_ffff) | 0x80_0000;
-            return (digits >> (150 - exponent)) as usize;
-        }
-        return 511;
+    let sum = x + 512.0;
+    let bits: u32 = f32::to_bits(sum);
+    let n: u32 = (bits >> 14) & 511;
+    if n as f32 > x {
+        return (n + 511) & 511;
     }
-    0
+    n
 }
 
-// the table that starts there, at a position
-fn look_in(tables: &[f32], start: usize, p: f32) -> f32
-    requires { ⌜ start + points ≤ length (now tables) ⌝ }
-    ensures { λ r. ⌜ r ≡ between (at (now (tables .entry)) (start + cellAt p)) (at (now (tables .entry)) (start + (cellAt p + 1))) (less p (nearest32 (cellAt p))) ⌝ }
+// the cell of each position
+fn cell_lanes(row: [f32; LANES]) -> [u32; LANES]
+    ensures { λ r. ⌜ Celled r row ⌝ }
 {
-    let i = cell(p);
-    let a = tables[start + i];
-    let b = tables[start + (i + 1)];
-    a + (b - a) * (p - i as f32)
+    let mut out = [0u32; LANES];
+    for l in 0..16 {
+        let x = number::held(0.0, 511.0, row[l]);
+        out[l] = whole(x);
+    }
+    out
 }
 
-// the same at each position
-fn look_lanes(tables: &[f32], start: usize, row: [f32; LANES]) -> [f32; LANES]
-    requires { ⌜ start + points ≤ length (now tables) ⌝ }
-    ensures { λ r. ⌜ ((l : ℕ) → l < lanes → at r l ≡ between (at (now (tables .entry)) (start + cellAt (at row l))) (at (now (tables .entry)) (start + (cellAt (at row l) + 1))) (less (at row l) (nearest32 (cellAt (at row l))))) ⌝ }
+// the number at each cell, of the table that starts there
+fn points_at(tables: &[f32], start: usize, cells: [u32; LANES]) -> [f32; LANES]
+    requires { ⌜ (start + 512 ≤ length (now tables)) × ((l : ℕ) → l < lanes → getD cells l 0 < 512) ⌝ }
+    ensures { λ r. ⌜ ((l : ℕ) → l < lanes → at r l ≡ at (now (tables .entry)) (start + getD cells l 0)) ⌝ }
+{
+    let mut out = [0.0f32; LANES];
+    for l in 0..16 {
+        out[l] = tables[start + cells[l] as usize];
+    }
+    out
+}
+
+// from each number of a towards that of b, by what is left of the position over its cell
+fn between_lanes(
+    a: [f32; LANES],
+    b: [f32; LANES],
+    cells: [u32; LANES],
+    row: [f32; LANES],
+) -> [f32; LANES]
+    requires { ⌜ ((l : ℕ) → l < lanes → getD cells l 0 < 512) ⌝ }
+    ensures { λ r. ⌜ ((l : ℕ) → l < lanes → at r l ≡ between (at a l) (at b l) (less (at row l) (nearest32 (getD cells l 0)))) ⌝ }
 {
     let mut out = row;
     for l in 0..16 {
         let p = out[l];
-        out[l] = look_in(tables, start, p);
+        let x = a[l];
+        let y = b[l];
+        let c = cells[l];
+        out[l] = x + (y - x) * (p - c as f32);
     }
     out
+}
+
+// the table that starts there, at each position
+fn look_lanes(tables: &[f32], start: usize, row: [f32; LANES]) -> [f32; LANES]
+    requires { ⌜ start + points ≤ length (now tables) ⌝ }
+    ensures { λ r. ⌜ ((l : ℕ) → l < lanes → at r l ≡ between (at (now (tables .entry)) (start + cellAt (at row l))) (at (now (tables .entry)) (start + (cellAt (at row l) + 1))) (less (at row l) (nearest32 (cellAt (at row l))))) ⌝ }
+{
+    let c = cell_lanes(row);
+    let a = points_at(tables, start, c);
+    let b = points_at(tables, start + 1, c);
+    between_lanes(a, b, c, row)
 }
 
 // the table at a place, at each

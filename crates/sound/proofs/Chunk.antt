@@ -1,6 +1,6 @@
 -- Frames and plans done one after the other are the audio of the chunk. Assumes nothing.
 use mathlib.Core.Path.{_≡_, refl, sym, ap, ap₂, _∙_, subst}
-use mathlib.Core.Bool.{_&&_}
+use mathlib.Core.Bool.{Bool, _&&_}
 use mathlib.Core.List.{List}
 use Prim.Native.Nat.{ℕ, zero, suc, _+_, _-_, _*_, _≤_, _<_}
 use native.Mathlib.Nat.{zero-add, add-mul}
@@ -147,30 +147,31 @@ frames-are st t c d (suc n) m =
 -- ---- plan after plan
 
 module _ (st : State) (w : Work) (e : Installed st w) (h g a b i : List Float) (c : Chunk) where
-  plan-of : (d : ℕ) → Of st d (jobOf w (getD (w .plan) d noPlan))
+  plan-of : (d : ℕ) (y : Bool) → Of st d (jobOf w (getD (w .plan) d noPlan) y)
   unfolding planAt
-  plan-of d =
+  plan-of d y =
       record { stride = e .stride; chunks = e .chunks; plans = e .plans; plan = ap (λ (l : List Plan). getD l d noPlan) (e .plan); routes = e .routes }
 
-  start-is : (d from width : ℕ) → width ≡ laneCount (jobOf w (getD (w .plan) d noPlan)) → from ≡ audioRow (w .scene .stride) (w .frames) d width (c .start) → from ≡ rowStart st d (c .start)
-  start-is d from width k p =
+  start-is : (d from width : ℕ) (y : Bool) → width ≡ laneCount (jobOf w (getD (w .plan) d noPlan) y) → from ≡ audioRow (w .scene .stride) (w .frames) d width (c .start) → from ≡ rowStart st d (c .start)
+  start-is d from width y k p =
       p
-      ∙ ap (λ (z : ℕ). audioRow (w .scene .stride) (w .frames) d z (c .start)) (k ∙ width-is st d (jobOf w (getD (w .plan) d noPlan)) (plan-of d))
+      ∙ ap (λ (z : ℕ). audioRow (w .scene .stride) (w .frames) d z (c .start)) (k ∙ width-is st d (jobOf w (getD (w .plan) d noPlan) y) (plan-of d y))
       ∙ ap₂ (λ (s f : ℕ). audioRow s f d (widthAt st d) (c .start)) (sym (e .stride)) (sym (e .frames))
 
   -- THE PLAN, by what its frames say of the part of the audio that is theirs
-  pub plan-done : (d from to width : ℕ) (v u v′ u′ : List Float) {job : Job} → job ≡ jobOf w (getD (w .plan) d noPlan) → width ≡ laneCount job → from ≡ audioRow (w .scene .stride) (w .frames) d width (c .start)
+  pub plan-done : (d from to width : ℕ) (v u v′ u′ : List Float) {job : Job} → job ≡ jobOf w (getD (w .plan) d noPlan) (job .simple) → width ≡ laneCount job → from ≡ audioRow (w .scene .stride) (w .frames) d width (c .start)
       → to ≡ from + c .len * width → to ≤ length u
       → ((st : State) (d : ℕ) → Of st d job → sounds v′ u′ ≡ rowFrames st (jobEnv job h g a b i) c d 0 (c .len) (sounds v (part u from to)))
       → sounds v′ (onPart u from to u′) ≡ audioFrames st (workEnv w h g a b i) c d (c .len) (sounds v u)
-  plan-done d from to width v u v′ u′ q k p r long f =
-      let job : Job = jobOf w (getD (w .plan) d noPlan) in
+  plan-done d from to width v u v′ u′ {job = found} q k p r long f =
+      let y : Bool = found .simple in
+      let job : Job = jobOf w (getD (w .plan) d noPlan) y in
       let t : Env = workEnv w h g a b i in
-      let wide : width ≡ widthAt st d = k ∙ ap laneCount q ∙ width-is st d job (plan-of d) in
+      let wide : width ≡ widthAt st d = k ∙ ap laneCount q ∙ width-is st d job (plan-of d y) in
       let end : to ≡ from + c .len * widthAt st d = r ∙ ap (λ (z : ℕ). from + c .len * z) wide in
-      ap (withPart u from to) (subst (λ (z : Job). Of st d z → sounds v′ u′ ≡ rowFrames st (jobEnv z h g a b i) c d 0 (c .len) (sounds v (part u from to))) q (f st d) (plan-of d))
+      ap (withPart u from to) (subst (λ (z : Job). Of st d z → sounds v′ u′ ≡ rowFrames st (jobEnv z h g a b i) c d 0 (c .len) (sounds v (part u from to))) q (f st d) (plan-of d y))
       ∙ frames-part st t c d from to (c .len) v u (sym (e .stride)) (omega arith) long (omega arith)
-      ∙ ap (λ (z : ℕ). rowFrames st t c d z (c .len) (sounds v u)) (start-is d from width (k ∙ ap laneCount q) p)
+      ∙ ap (λ (z : ℕ). rowFrames st t c d z (c .len) (sounds v u)) (start-is d from width y (k ∙ ap laneCount q) p)
       ∙ frames-are st t c d (c .len) (sounds v u)
 
   pub plans-none : (m : Sounds) → m ≡ audioPlans st (workEnv w h g a b i) c 0 m

@@ -1,6 +1,6 @@
 -- Jobs put together from their parts. Assumes nothing.
 use mathlib.Core.Path.{_≡_, refl, sym, ap, _∙_, subst}
-use mathlib.Core.Bool.{Bool, _&&_}
+use mathlib.Core.Bool.{Bool, false, _&&_}
 use mathlib.Core.List.{List}
 use Prim.Native.Nat.{ℕ, _+_, _*_, _≤_, _<_}
 use native.Mathlib.Omega.{arith}
@@ -14,14 +14,14 @@ use Rattle.model.specs.Layout.{planWidth, audioRow}
 use Rattle.input.specs.declared.Scene.{Scene}
 use Rattle.input.specs.Scene.{envOf}
 use Rattle.sum.specs.declared.Job.{Job}
-use Rattle.sum.specs.Job.{Bounded, laneCount}
+use Rattle.sum.specs.Job.{NoneSimple, Bounded, laneCount}
 use Rattle.sound.specs.declared.Work.{Work}
 use Rattle.sound.specs.Rows.{sceneAt, jobAt}
 use Rattle.sound.specs.Work.{Sized, audioRoom, jobOf}
 use Rattle.sound.proofs.Parts.{part-within}
 
 abbrev withScene : Job → Scene → Job
-withScene w s = record { plan = w .plan; routes = w .routes; scene = s; signals = w .signals; chunks = w .chunks; plans = w .plans }
+withScene w s = record { plan = w .plan; routes = w .routes; scene = s; signals = w .signals; chunks = w .chunks; plans = w .plans; simple = w .simple }
 
 -- the scene at a frame has the environment there
 pub scene-at : (s : Scene) (z : Signals) (h g a b i : List Float) (k end : ℕ) (snap : Bool) → envOf (sceneAt s k end snap) h g a b i z ≡ atFrame (envOf s h g a b i z) k end snap
@@ -32,16 +32,16 @@ job-at w c n e k = ap (withScene w) (k ∙ ap (sceneAt (w .scene) (c .start + n)
 
 -- sizes as they were
 pub bounded-at : (w : Job) (c : Chunk) (n : ℕ) {v : Job} → v ≡ jobAt w c n → Bounded w → Bounded v
-bounded-at w c n e b = subst (λ (z : Job). Bounded z) (sym e) (record { stride = b .stride; chunks = b .chunks; plans = b .plans })
+bounded-at w c n e b = subst (λ (z : Job). Bounded z) (sym e) (record { stride = b .stride; chunks = b .chunks; plans = b .plans; simple = b .simple })
 
-pub bounded-of : (w : Work) (c : Chunk) (p : Plan) {v : Job} → v ≡ jobOf w p → Sized w c → Bounded v
-bounded-of w c p e b = subst (λ (z : Job). Bounded z) (sym e) (record { stride = b .stride; chunks = b .chunks; plans = b .plans })
+pub bounded-of : (w : Work) (c : Chunk) (p : Plan) {v : Job} → (v ≡ jobOf w p (v .simple)) × (v .simple ≡ false → NoneSimple (w .routes) p) → Sized w c → Bounded v
+bounded-of w c p {v} e b = subst (λ (z : Job). Bounded z) (sym (e .0)) (record { stride = b .stride; chunks = b .chunks; plans = b .plans; simple = e .1 })
 
-pub job-of : (w : Work) {p q : Plan} → p ≡ q → jobOf w p ≡ jobOf w q
-job-of w e = ap (jobOf w) e
+pub job-of : (w : Work) (b : Bool) {p q : Plan} → p ≡ q → (b ≡ false → NoneSimple (w .routes) p) → (jobOf w p b ≡ jobOf w q b) × (b ≡ false → NoneSimple (w .routes) q)
+job-of w b e h = (ap (λ (y : Plan). jobOf w y b) e, subst (λ (y : Plan). b ≡ false → NoneSimple (w .routes) y) e h)
 
 -- the rows of plan d end within the audio
-pub rows-within : (w : Work) (c : Chunk) (p : Plan) (d n from size width : ℕ) {v : Job} → v ≡ jobOf w p → width ≡ laneCount v → from ≡ audioRow (w .scene .stride) (w .frames) d width (c .start)
+pub rows-within : (w : Work) (c : Chunk) (p : Plan) (d n from size width : ℕ) {v : Job} → v ≡ jobOf w p (v .simple) → width ≡ laneCount v → from ≡ audioRow (w .scene .stride) (w .frames) d width (c .start)
     → size ≡ c .len * width → Sized w c → d < w .plans → audioRoom w ≤ n → from + size ≤ n
 rows-within w c p d n from size width q k e r b h room =
     let s : ℕ = w .scene .stride in

@@ -48,6 +48,7 @@ jobAt w c n =
       signals = w .signals;
       chunks = w .chunks;
       plans = w .plans;
+      simple = w .simple;
     }
 
 -- what a job's numbers are worked out from, with held numbers h, globals g, bases a, tables b and samples i

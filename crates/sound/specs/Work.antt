@@ -1,5 +1,6 @@
 -- What the audio of a chunk is worked out from, and that it is a state's. Definitions only.
 use mathlib.Core.Path.{_≡_}
+use mathlib.Core.Bool.{Bool}
 use mathlib.Core.List.{List}
 use Prim.Native.Nat.{ℕ, _+_, _*_, _≤_}
 use lib.Ieee.{Float}
@@ -37,9 +38,9 @@ pub record Installed (st : State) (w : Work) : Type 0 where
   pub plan : st .program .plan ≡ w .plan
   pub routes : st .program .route ≡ w .routes
 
--- the job of a plan
-abbrev pub jobOf : Work → Plan → Job
-jobOf w p = record { plan = p; routes = w .routes; scene = w .scene; signals = w .signals; chunks = w .chunks; plans = w .plans }
+-- the job of a plan; b: whether a route of it is simple
+abbrev pub jobOf : Work → Plan → Bool → Job
+jobOf w p b = record { plan = p; routes = w .routes; scene = w .scene; signals = w .signals; chunks = w .chunks; plans = w .plans; simple = b }
 
 -- what the numbers are worked out from, with held numbers h, globals g, bases a, tables b and samples i
 abbrev pub workEnv : Work → List Float → List Float → List Float → List Float → List Float → Env

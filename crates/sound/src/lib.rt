@@ -20,7 +20,7 @@ ghost use Rattle.model.specs.Mix.{Mix};
 ghost use Rattle.model.specs.Tick.{lanesFrom};
 ghost use Rattle.slewing.specs.Put.{newNeed, IsNew};
 ghost use Rattle.slewing.specs.Rows.{IsRow};
-ghost use Rattle.sum.specs.Job.{Bounded, laneCount, baseBy, IsScene, IsJob, Sums};
+ghost use Rattle.sum.specs.Job.{NoneSimple, Bounded, laneCount, baseBy, IsScene, IsJob, Sums};
 ghost use Rattle.sweep.specs.Leads.{Swept};
 ghost use Rattle.sweep.specs.Sweep.{sweptRows, Within};
 ghost use Rattle.sound.specs.Rows.{sounds, sceneAt, jobAt, jobEnv, Of, rowFrame, rowFrames};
@@ -226,6 +226,7 @@ pub fn job_at(job: Job, chunk: Chunk, n: usize) -> Job
         signals,
         chunks: job.chunks,
         plans: job.plans,
+        simple: job.simple,
     }
 }
 
@@ -301,13 +302,15 @@ fn plan_at(plans: [Plan; SLOTS], d: usize) -> Plan
 // the job of plan d
 fn job_of(work: Work, d: usize) -> Job
     requires { ⌜ d < slots ⌝ }
-    ensures { λ r. ⌜ r ≡ jobOf work (getD (work .plan) d noPlan) ⌝ }
+    ensures { λ r. ⌜ (r ≡ jobOf work (getD (work .plan) d noPlan) (r .simple)) × (r .simple ≡ false → NoneSimple (work .routes) (getD (work .plan) d noPlan)) ⌝ }
 {
     let plans = work.plan;
     let routes = work.routes;
     let scene = work.scene;
     let signals = work.signals;
     let plan = plan_at(plans, d);
+    let simples = sum::simples_of(routes);
+    let simple = sum::some_simple(simples, plan.first, plan.count);
     Job {
         plan,
         routes,
@@ -315,6 +318,7 @@ fn job_of(work: Work, d: usize) -> Job
         signals,
         chunks: work.chunks,
         plans: work.plans,
+        simple,
     }
 }
 

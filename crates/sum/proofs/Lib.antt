@@ -4,3 +4,4 @@ pub mod Places
 pub mod Found
 pub mod Steps
 pub mod Jobs
+pub mod Simple

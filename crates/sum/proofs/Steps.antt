@@ -1,5 +1,5 @@
 -- The sums route by route, by what the code finds. Assumes nothing.
-use mathlib.Core.Path.{_≡_, refl, sym, ap, _∙_}
+use mathlib.Core.Path.{_≡_, refl, sym, ap, _∙_, subst}
 use mathlib.Core.Bool.{Bool, true, false, not, cond, _&&_, _||_}
 use mathlib.Core.Logic.{⊎-elim}
 use Prim.Native.Nat.{ℕ, zero, suc, _+_, _<_}
@@ -12,7 +12,7 @@ use Rattle.number.specs.Number.{zero32, plus, times}
 use Rattle.state.specs.declared.Gains.{Gains}
 use Rattle.state.specs.declared.Route.{Route}
 use Rattle.model.specs.Env.{Env, Rows, Own}
-use Rattle.model.specs.Lanes.{Lane, lane, nowhere, inGroup, laneIf, addend, inSpan}
+use Rattle.model.specs.Lanes.{Lane, lane, nowhere, inGroup, laneIf, addend, sounding, inSpan}
 use Rattle.model.specs.Mix.{Mix}
 use Rattle.model.specs.RouteValue.{rawIn, routeValue, isZero, idle, plain}
 use Rattle.model.specs.Sums.{baseIn, offsetStep, offsets, somePlain, allPlain, hasPlain, scaledGain, plainStep, plains, addLane, otherStep, others, begun, tickSum, audioBegun, audioSum}
@@ -21,7 +21,7 @@ use Rattle.input.proofs.Numbers.{which}
 use Rattle.input.proofs.Tests.{was-true, was-false}
 use Rattle.sum.specs.declared.Job.{Job}
 use Rattle.sum.specs.declared.Totals.{Totals}
-use Rattle.sum.specs.Job.{laneCount, slotGain, IsJob}
+use Rattle.sum.specs.Job.{Bounded, laneCount, slotGain, IsJob}
 use Rattle.sum.specs.Ground.{Totalled}
 
 -- ---- offsets
@@ -191,6 +191,26 @@ none-plain : (t : Env) (x : Mix) (k : ℕ) → x .voice ≡ false → somePlain 
 unfolding somePlain plain
 none-plain t x zero e = refl
 none-plain t x (suc k) e = rw (none-plain t x k e, e)
+
+-- nor has one without a simple route
+not-simple : (t : Env) (v : Bool) (r : Route) → r .simple ≡ false → plain t v r ≡ false
+unfolding plain
+not-simple t true r e = rw e (and-false (sounding t))
+not-simple t false r e = refl
+
+none-simple : (t : Env) (x : Mix) (k : ℕ) → ((j : ℕ) → j < k → x .route j .simple ≡ false) → somePlain t x k ≡ false
+unfolding somePlain
+none-simple t x zero h = refl
+none-simple t x (suc k) h =
+    rw (none-simple t x k (λ j b. h j (omega arith)))
+    (not-simple t (x .voice) (x .route k) (h k (omega arith)))
+
+pub bare-of : {t : Env} {x : Mix} {w : Job} → Bounded w → IsJob t x w → not (w .simple) ≡ true → hasPlain t x ≡ false
+bare-of {t} {x} {w} b k e =
+    none-simple t x (x .count)
+    (λ j h.
+    let small : j < w .plan .count = subst (λ (n : ℕ). j < n) (k .mix .count) h in
+    ap (λ (r : Route). r .simple) (k .mix .route j small) ∙ b .simple (was-false refl e) j small)
 
 -- so that where there is one, the row has a lane for each voice
 pub plain-wide : {t : Env} {x : Mix} {w : Job} (l : ℕ) → IsJob t x w → hasPlain t x ≡ true → l < laneCount w → l < w .scene .stride

@@ -1,5 +1,6 @@
 -- What the sum of a destination is worked out from, and that it is the environment's and the mix's. Definitions only.
 use mathlib.Core.Path.{_≡_}
+use mathlib.Core.Bool.{Bool, false}
 use mathlib.Core.List.{List}
 use Prim.Native.Nat.{ℕ, _+_, _≤_, _<_}
 use lib.ListN.{getD}
@@ -23,11 +24,20 @@ use Rattle.route.specs.declared.View.{View}
 use Rattle.route.specs.View.{IsOwn}
 use Rattle.sum.specs.declared.Job.{Job}
 
--- sizes below their limits
+-- b says which of the routes r are simple
+abbrev pub AreSimple : List Route → List Bool → Type 0
+AreSimple r b = (i : ℕ) → getD b i false ≡ getD r i noRoute .simple
+
+-- no route of the plan is simple
+abbrev pub NoneSimple : List Route → Plan → Type 0
+NoneSimple r p = (j : ℕ) → j < p .count → getD r (p .first + j) noRoute .simple ≡ false
+
+-- sizes below their limits; where the job says so, no route of the plan is simple
 pub record Bounded (w : Job) : Type 0 where
   pub stride : w .scene .stride ≤ 64
   pub chunks : w .chunks ≤ 130
   pub plans : w .plans ≤ slots
+  pub simple : w .simple ≡ false → NoneSimple (w .routes) (w .plan)
 
 -- the lanes of the plan's row
 abbrev pub laneCount : Job → ℕ

@@ -19,7 +19,7 @@ ghost use Rattle.model.specs.Sums.{baseIn, offsets, plainStep, plains, addLane,
 ghost use Rattle.input.specs.Lane.{laneOf};
 ghost use Rattle.input.specs.Reads.{Works, partFor, pointOf};
 ghost use Rattle.route.specs.View.{mostValues, Placed, auxPart, Viewed};
-ghost use Rattle.sum.specs.Job.{Bounded, laneCount, slotGain, baseBy, IsScene, IsJob, Mixes, Shown};
+ghost use Rattle.sum.specs.Job.{AreSimple, Bounded, laneCount, slotGain, baseBy, IsScene, IsJob, Mixes, Shown};
 ghost use Rattle.sum.specs.Ground.{Based, groundOf, Chosen, partKey, auxKey, ownBy, viewBy, Inside, Tells, Spanned, Reached, Totalled};
 use config::LANES;
 use config::SLOTS;
@@ -42,8 +42,8 @@ use state::Signals;
 use state::Slew;
 use voice::Voices;
 
-// What the sum of a destination is worked out from at one frame, besides the lent numbers: its plan, the routes, scene and signals, and how many chunks a plan has
-// room for and how many plans there are.
+// What the sum of a destination is worked out from at one frame, besides the lent numbers: its plan, the routes, scene and signals, how many chunks a plan has
+// room for and how many plans there are, and whether a route of the plan is simple.
 pub struct Job {
     pub plan: Plan,
     pub routes: [Route; SLOTS],
@@ -51,6 +51,7 @@ pub struct Job {
     pub signals: Signals,
     pub chunks: usize,
     pub plans: usize,
+    pub simple: bool,
 }
 
 // What every route of a job's plan is worked out from: whether the plan is per voice, whether a voice is active, the first route, the sizes and the gains.
@@ -1192,10 +1193,41 @@ fn groups_of(active: [bool; VOICES]) -> [bool; GROUPS]
     [a, b, c, d]
 }
 
+// ---- simple routes
+
+// Which routes are simple.
+pub fn simples_of(routes: [Route; SLOTS]) -> [bool; SLOTS]
+    ensures { λ r. ⌜ AreSimple routes r ⌝ }
+{
+    let mut out = [false; SLOTS];
+    let mut i = 0usize;
+    while i < SLOTS {
+        let route = routes[i];
+        out[i] = route.simple;
+        i += 1;
+    }
+    out
+}
+
+// Whether one of `count` routes from `first` on is simple.
+pub fn some_simple(simples: [bool; SLOTS], first: usize, count: usize) -> bool
+    ensures { λ r. ⌜ (r ≡ false → (j : ℕ) → j < count → getD simples (first + j) false ≡ false) ⌝ }
+{
+    let mut j = 0usize;
+    while j < count {
+        let i = route_index(first, j);
+        if simples[i] {
+            return true;
+        }
+        j += 1;
+    }
+    false
+}
+
 // ---- the sum
 
-// what the others are added to at a tick
-pub fn tick_begun(
+// what the others are added to at a tick, where a route may be plain
+fn tick_plains(
     job: Job,
     base: f32,
     held: &[f32],
@@ -1216,8 +1248,26 @@ pub fn tick_begun(
     plain_row(job, base + offset, row, held, globals, samples, values)
 }
 
-// what the others are added to in audio, where `old` stands in the row
-pub fn audio_begun(
+// what the others are added to at a tick
+pub fn tick_begun(
+    job: Job,
+    base: f32,
+    held: &[f32],
+    globals: &[f32],
+    samples: &[f32],
+    values: &[f32],
+) -> [f32; VOICES]
+    requires { ⌜ Bounded job ⌝ }
+    ensures { λ r. ⌜ ((t : Env) (f : Rows) (s : Own) (x : Mix) → Mixes t f s x job (now (held .entry)) (now (globals .entry)) (now (samples .entry)) (now (values .entry)) → base ≡ baseIn t x → (l : ℕ) → l < laneCount job → at r l ≡ begun t f s x l) ⌝ }
+{
+    if !job.simple {
+        return [base; VOICES];
+    }
+    tick_plains(job, base, held, globals, samples, values)
+}
+
+// what the others are added to in audio, where `old` stands in the row and a route may be plain
+fn audio_plains(
     job: Job,
     base: f32,
     old: [f32; VOICES],
@@ -1236,4 +1286,23 @@ pub fn audio_begun(
         return [base; VOICES];
     }
     plain_row(job, base + offset, old, held, globals, samples, values)
+}
+
+// what the others are added to in audio, where `old` stands in the row
+pub fn audio_begun(
+    job: Job,
+    base: f32,
+    old: [f32; VOICES],
+    held: &[f32],
+    globals: &[f32],
+    samples: &[f32],
+    values: &[f32],
+) -> [f32; VOICES]
+    requires { ⌜ Bounded job ⌝ }
+    ensures { λ r. ⌜ ((t : Env) (f : Rows) (s : Own) (x : Mix) → Mixes t f s x job (now (held .entry)) (now (globals .entry)) (now (samples .entry)) (now (values .entry)) → base ≡ baseIn t x → (l : ℕ) → l < laneCount job → at r l ≡ audioBegun t f s x (at old l) l) ⌝ }
+{
+    if !job.simple {
+        return [base; VOICES];
+    }
+    audio_plains(job, base, old, held, globals, samples, values)
 }

@@ -1,14 +1,13 @@
--- Routes more over the rows of a chunk: what the rows are after each pass. Assumes nothing.
+-- Routes four at a time over the rows of a chunk: what the rows are after each pass. Assumes nothing.
 use mathlib.Core.Path.{_≡_, refl, sym, ap, ap₂, _∙_}
 use mathlib.Core.Bool.{Bool, true, false, cond}
 use mathlib.Core.Logic.{_⊎_, inl, inr, ⊎-elim}
 use mathlib.Core.List.{List}
-use Prim.Native.Nat.{ℕ, zero, suc, _+_, _-_, _*_, _/_, _≤_, _<_}
+use Prim.Native.Nat.{ℕ, zero, suc, _+_, _-_, _*_, _≤_, _<_, zero-le}
 use native.Mathlib.Nat.{add-assoc, add-mul, eq-or-lt-of-le, le-of-suc-le-suc}
-use native.Mathlib.Numerals.{add-one}
 use native.Mathlib.Omega.{arith}
-use borrow.Author.Tests.{eq-eqb, ne-eqb}
-use lib.Dec.{eqb}
+use borrow.Author.Tests.{lt-ltb, le-ltb, eq-eqb, ne-eqb}
+use lib.Dec.{eqb, ltb}
 use lib.ListN.{length, getD, set}
 use lib.Seq.{set-comm, set-set}
 use lib.Ieee.{Float}
@@ -20,8 +19,8 @@ use Rattle.model.proofs.FillFrom.{fill-length, fill-outside, fill-inside, fill-
 use Rattle.sweep.specs.declared.Levels.{Levels}
 use Rattle.sweep.specs.declared.Pass.{Pass}
 use Rattle.sweep.specs.declared.Places.{Places}
-use Rattle.sweep.specs.Sweep.{sweptStep, placeOf, swept, heldBy, sweptAt, sweptRow, sweptRows, someRow, someRows, Within, partOf, headOf, afterOf, fourOf, levelsOf, furtherOf, placesAt, UpTo, fourAt}
-use Rattle.sweep.proofs.Laws.{fill-append}
+use Rattle.sweep.specs.Sweep.{sweptStep, placeOf, swept, startAt, heldBy, sweptAt, sweptRow, sweptRows, someRow, someRows, Within, partOf, headOf, afterOf, fourOf, levelsOf, furtherOf, placesAt, UpTo, fourAt}
+use Rattle.sweep.proofs.Laws.{fill-append, rows-anew}
 
 -- ---- filled twice
 
@@ -136,20 +135,6 @@ module _ (s p : List ℕ) (g xs : List Float) (q : Pass) (a k : ℕ) (fits : q .
       ∙ fill-twice (sweptRows s p g xs (headOf q i) a k n old) (b + q .from) under over (q .groups * lanes)
       ∙ ap (sweptRow s p g xs (headOf q i) b (k + n)) (rows-twice i j m n)
 
-  -- rows in which the first j routes are stay as they are where these are put again
-  pub rows-again : (m n : List Float) (j len : ℕ) (t : Pass) → t ≡ headOf q j → n ≡ sweptRows s p g xs t a k len m → n ≡ sweptRows s p g xs (headOf q j) a k len n
-  rows-again m n j len t f e =
-      let old : n ≡ sweptRows s p g xs (headOf q j) a k len m = e ∙ ap (λ (y : Pass). sweptRows s p g xs y a k len m) f in
-      old ∙ sym (rows-twice j j m len) ∙ ap (sweptRows s p g xs (headOf q j) a k len) (sym old)
-
-  -- the rows of the first j routes over those of the first i
-  pub rows-over : (m n r : List Float) (i j len : ℕ) (t : Pass) → t ≡ headOf q i → n ≡ sweptRows s p g xs t a k len m → r ≡ sweptRows s p g xs (headOf q j) a k len n
-      → r ≡ sweptRows s p g xs (headOf q j) a k len m
-  rows-over m n r i j len t f e z =
-      z
-      ∙ ap (sweptRows s p g xs (headOf q j) a k len) (e ∙ ap (λ (y : Pass). sweptRows s p g xs y a k len m) f)
-      ∙ rows-twice j i m len
-
 module _ (s p : List ℕ) (g xs : List Float) (q : Pass) (a k j : ℕ) (fits : q .from + q .groups * lanes ≤ q .width) where
   -- c routes more, where the first j are in the rows
   pub more-is : (c : ℕ) (m : List Float) (len n : ℕ) → j < q .count → n ≤ len → a + len * q .width ≤ length m
@@ -179,6 +164,25 @@ module _ (s p : List ℕ) (g xs : List Float) (q : Pass) (a k j : ℕ) (fits : q
       ∙ ap₂ (λ (y : Pass) (w : List Float). someRows true s p g xs y a k len w) f e
       ∙ more-is c m len len b o h
       ∙ rows-twice s p g xs q a k fits (j + c) j m len
+
+  -- the same, where no route is in the rows as long as j is 0
+  pub next-more : (c : ℕ) (m n r : List Float) (len : ℕ) (t : Pass) → j < q .count → a + len * q .width ≤ length m → (j ≡ 0 → n ≡ m)
+      → (0 < j → n ≡ sweptRows s p g xs (headOf q j) a k len m) → t ≡ afterOf q j c → r ≡ someRows (ltb 0 j) s p g xs t a k len n → r ≡ sweptRows s p g xs (headOf q (j + c)) a k len m
+  next-more c m n r len t b h e o f z =
+      ⊎-elim
+      (λ (none : 0 ≡ j).
+      let no : ltb 0 j ≡ false = le-ltb 0 j (omega arith) in
+      let one : q .first + j ≡ q .first = omega arith in
+      let all : j + c ≡ c = omega arith in
+      z
+      ∙ ap₂ (λ (y : Bool) (w : List Float). someRows y s p g xs t a k len w) no (e (sym none))
+      ∙ rows-anew s p g xs t k a len m
+      ∙ ap (λ (y : Pass). sweptRows s p g xs y a k len m) f
+      ∙ ap₂ (λ (i : ℕ) (y : ℕ). sweptRows s p g xs (partOf q i y (j + c)) a k len m) one (sym all))
+      (λ (some : 0 < j).
+      let yes : ltb 0 j ≡ true = lt-ltb 0 j some in
+      some-more c m n r len t b h (o some) f (z ∙ ap (λ (y : Bool). someRows y s p g xs t a k len n) yes))
+      (eq-or-lt-of-le zero-le)
 
   -- the first j routes, and all that are left
   pub all-more : (m n r : List Float) (len : ℕ) (t : Pass) → j < q .count → a + len * q .width ≤ length m → n ≡ sweptRows s p g xs (headOf q j) a k len m
@@ -225,17 +229,7 @@ four-steps xs acc a b c r p g l e f h z =
     ∙ ap (sweptStep (g .d) (at xs (p .d + l)))
     (h ∙ ap (sweptStep (g .c) (at xs (p .c + l))) (f ∙ ap (sweptStep (g .b) (at xs (p .b + l))) e))
 
-module _ (xs : List Float) (p : Places) (g : Levels) (a : ℕ) where
-  -- lane l of the row, which holds the numbers of m
-  abbrev pub fourLane : List Float → ℕ → Float
-  fourLane m l = fourAt xs p g l (at m (a + l))
-
-  -- sixteen lanes
-  pub four-group-done : (m r old acc : List Float) → ((l : ℕ) → l < lanes → at old l ≡ at m (a + l)) → ((l : ℕ) → l < lanes → at acc l ≡ fourAt xs p g l (at old l))
-      → r ≡ fillFrom m a (at acc) lanes → r ≡ fillFrom m a (fourLane m) lanes
-  four-group-done m r old acc e f z =
-      z ∙ fill-same m a (at acc) (fourLane m) lanes (λ l b. f l b ∙ ap (fourAt xs p g l) (e l b))
-
+module _ (xs : List Float) (p : Places) (g : Levels) where
   further-at : (o l : ℕ) (b : Float) → fourAt xs (furtherOf p o) g l b ≡ fourAt xs p g (o + l) b
   further-at o l b =
       let ea : p .a + o + l ≡ p .a + (o + l) = add-assoc (p .a) o l in
@@ -249,23 +243,34 @@ module _ (xs : List Float) (p : Places) (g : Levels) (a : ℕ) where
   further-inside i n t e h w =
       rw e record { a = omega (arith, w .a); b = omega (arith, w .b); c = omega (arith, w .c); d = omega (arith, w .d) }
 
+module _ (over : Bool) (x : Float) (xs : List Float) (p : Places) (g : Levels) (a : ℕ) where
+  -- lane l of the row, over the numbers of m
+  abbrev pub fourLane : List Float → ℕ → Float
+  fourLane m l = fourAt xs p g l (startAt over x m (a + l))
+
+  -- sixteen lanes
+  pub four-group-done : (m r old acc : List Float) → ((l : ℕ) → l < lanes → at old l ≡ startAt over x m (a + l))
+      → ((l : ℕ) → l < lanes → at acc l ≡ fourAt xs p g l (at old l)) → r ≡ fillFrom m a (at acc) lanes → r ≡ fillFrom m a (fourLane m) lanes
+  four-group-done m r old acc e f z =
+      z ∙ fill-same m a (at acc) (fourLane m) lanes (λ l b. f l b ∙ ap (fourAt xs p g l) (e l b))
+
   pub fours-none : (m : List Float) → m ≡ fillFrom m a (fourLane m) (0 * lanes)
   unfolding fillFrom
   fours-none m = refl
 
   -- sixteen lanes more
   pub fours-more : (m n r : List Float) (i : ℕ) (t : Places) → n ≡ fillFrom m a (fourLane m) (i * lanes) → t ≡ furtherOf p (i * lanes)
-      → r ≡ fillFrom n (a + i * lanes) (λ l. fourAt xs t g l (at n (a + i * lanes + l))) lanes → r ≡ fillFrom m a (fourLane m) ((i + 1) * lanes)
+      → r ≡ fillFrom n (a + i * lanes) (λ l. fourAt xs t g l (startAt over x n (a + i * lanes + l))) lanes → r ≡ fillFrom m a (fourLane m) ((i + 1) * lanes)
   fours-more m n r i t e h z =
       let o : ℕ = i * lanes in
       let all : o + lanes ≡ (i + 1) * lanes = omega arith in
       z
-      ∙ ap (λ (y : Places). fillFrom n (a + o) (λ l. fourAt xs y g l (at n (a + o + l))) lanes) h
-      ∙ fill-same n (a + o) (λ l. fourAt xs (furtherOf p o) g l (at n (a + o + l))) (λ l. fourLane m (o + l)) lanes
+      ∙ ap (λ (y : Places). fillFrom n (a + o) (λ l. fourAt xs y g l (startAt over x n (a + o + l))) lanes) h
+      ∙ fill-same n (a + o) (λ l. fourAt xs (furtherOf p o) g l (startAt over x n (a + o + l))) (λ l. fourLane m (o + l)) lanes
       (λ l c.
-      further-at o l (at n (a + o + l))
-      ∙ ap (fourAt xs p g (o + l))
-      (ap (λ (y : List Float). at y (a + o + l)) e ∙ fill-outside m a (fourLane m) o (a + o + l) (inr (omega arith)) ∙ ap (at m) (add-assoc a o l)))
+      let old : at n (a + o + l) ≡ at m (a + (o + l)) =
+      ap (λ (y : List Float). at y (a + o + l)) e ∙ fill-outside m a (fourLane m) o (a + o + l) (inr (omega arith)) ∙ ap (at m) (add-assoc a o l) in
+      further-at xs p g o l (startAt over x n (a + o + l)) ∙ ap (λ (y : Float). fourAt xs p g (o + l) (cond over y x)) old)
       ∙ ap (λ (y : List Float). fillFrom y (a + o) (λ l. fourLane m (o + l)) lanes) e
       ∙ fill-append m a (fourLane m) o lanes
       ∙ ap (fillFrom m a (fourLane m)) all
@@ -317,16 +322,18 @@ module _ (s p : List ℕ) (g xs : List Float) (q : Pass) (k : ℕ) where
   free : (y : Float) → q .bound ≡ false → y ≡ heldBy q y
   free y e = rw e
 
-  pub more-row-is : (m r : List Float) (a c : ℕ) (t : Places) (v : Levels) → q .count ≡ 4 → q .bound ≡ false → c ≡ a + q .from
+  pub four-row-is : (over : Bool) (m r : List Float) (a c : ℕ) (t : Places) (v : Levels) → q .count ≡ 4 → q .bound ≡ false → c ≡ a + q .from
       → t ≡ placesAt (fourOf s (q .first)) (fourOf p (q .first)) k (q .from) → v ≡ levelsOf g (q .first)
-      → r ≡ fillFrom m c (fourLane xs t v c m) (q .groups * lanes) → r ≡ someRow true s p g xs q a k m
+      → r ≡ fillFrom m c (fourLane over (q .begun) xs t v c m) (q .groups * lanes) → r ≡ someRow over s p g xs q a k m
   unfolding someRow
-  more-row-is m r a c t v four unheld e h f z =
+  four-row-is over m r a c t v four unheld e h f z =
       z
-      ∙ ap (λ (y : ℕ). fillFrom m y (fourLane xs t v y m) (q .groups * lanes)) e
-      ∙ ap₂ (λ (y : Places) (w : Levels). fillFrom m (a + q .from) (fourLane xs y w (a + q .from) m) (q .groups * lanes)) h f
-      ∙ fill-same m (a + q .from) _ (λ l. heldBy q (swept s p g xs (q .first) k (q .from + l) (at m (a + q .from + l)) (q .count))) (q .groups * lanes)
-      (λ l b. four-is l (at m (a + q .from + l)) ∙ ap (swept s p g xs (q .first) k (q .from + l) (at m (a + q .from + l))) (sym four) ∙ free _ unheld)
+      ∙ ap (λ (y : ℕ). fillFrom m y (fourLane over (q .begun) xs t v y m) (q .groups * lanes)) e
+      ∙ ap₂ (λ (y : Places) (w : Levels). fillFrom m (a + q .from) (fourLane over (q .begun) xs y w (a + q .from) m) (q .groups * lanes)) h f
+      ∙ fill-same m (a + q .from) _ (λ l. heldBy q (swept s p g xs (q .first) k (q .from + l) (startAt over (q .begun) m (a + q .from + l)) (q .count))) (q .groups * lanes)
+      (λ l b.
+      let old : Float = startAt over (q .begun) m (a + q .from + l) in
+      four-is l old ∙ ap (swept s p g xs (q .first) k (q .from + l) old) (sym four) ∙ free _ unheld)
 
 -- ---- whether it is the last
 

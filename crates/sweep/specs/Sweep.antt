@@ -65,7 +65,7 @@ pub record Within (s p : List ℕ) (g xs : List Float) (q : Pass) (end : ℕ) : 
   pub wide : (i : ℕ) → q .first ≤ i → i < q .first + q .count → q .width ≤ getD p i 0
   pub inside : (i : ℕ) → q .first ≤ i → i < q .first + q .count → getD s i 0 + end * getD p i 0 ≤ length xs
 
--- ---- four routes more
+-- ---- four routes
 
 -- n of the routes of q from `first` on; held where they are the last ones, of which there are `end` in all
 abbrev pub partOf : Pass → ℕ → ℕ → ℕ → Pass

@@ -1,4 +1,4 @@
-// Plain routes added over the rows of a chunk, 16 lanes at a time: the sums of a group stay together over the first routes, then over four more at a time (engine.rs 951-1006,
+// Plain routes added over the rows of a chunk, 16 lanes at a time: the sums of a group stay together over four routes at a time, then over the last ones (engine.rs 951-1006,
 // 1013-1036, 1056-1183; document 01, Chunk and value). What the rows become is defined in specs/Sweep; which routes and plans are swept, and by what, in specs/Leads.
 ghost use mathlib.Core.Path.{_≡_};
 ghost use Prim.Native.Nat.{ℕ, _+_, _-_, _*_, _/_, _≤_, _<_};
@@ -299,7 +299,7 @@ fn some_rows(
     }
 }
 
-// ---- four routes more
+// ---- four routes
 
 // Where the numbers of four routes stand.
 pub struct Places {
@@ -328,12 +328,12 @@ fn four(acc: [f32; LANES], xs: &[f32], p: Places, g: Levels) -> [f32; LANES]
     step(c, xs, p.d, g.d)
 }
 
-// four routes added to sixteen lanes from `start` on
-fn four_group(audio: &mut [f32], start: usize, xs: &[f32], p: Places, g: Levels)
+// four routes added to sixteen lanes from `start` on: to what stands there, or to x
+fn four_group(audio: &mut [f32], over: bool, x: f32, start: usize, xs: &[f32], p: Places, g: Levels)
     requires { ⌜ UpTo (furtherOf p lanes) (length (now xs)) × (start + lanes ≤ length (now audio)) ⌝ }
-    ensures { λ _. ⌜ now (audio .exit) ≡ fillFrom (now (audio .entry)) start (λ (l : ℕ). fourAt (now (xs .entry)) p g l (at (now (audio .entry)) (start + l))) lanes ⌝ }
+    ensures { λ _. ⌜ now (audio .exit) ≡ fillFrom (now (audio .entry)) start (λ (l : ℕ). fourAt (now (xs .entry)) p g l (startAt over x (now (audio .entry)) (start + l))) lanes ⌝ }
 {
-    let old = sixteen(audio, start);
+    let old = begin(audio, over, start, x);
     let acc = four(old, xs, p, g);
     put(audio, start, acc);
 }
@@ -351,16 +351,25 @@ fn further(p: Places, n: usize) -> Places
     }
 }
 
-// four routes added to the lanes of so many groups, of which the first stands at `start`
-fn four_row(audio: &mut [f32], start: usize, groups: usize, xs: &[f32], p: Places, g: Levels)
+// the same in the lanes of so many groups, of which the first stands at `start`
+fn four_row(
+    audio: &mut [f32],
+    over: bool,
+    x: f32,
+    start: usize,
+    groups: usize,
+    xs: &[f32],
+    p: Places,
+    g: Levels,
+)
     requires { ⌜ UpTo (furtherOf p (groups * lanes)) (length (now xs)) × (start + (groups * lanes) ≤ length (now audio)) ⌝ }
-    ensures { λ _. ⌜ now (audio .exit) ≡ fillFrom (now (audio .entry)) start (λ (l : ℕ). fourAt (now (xs .entry)) p g l (at (now (audio .entry)) (start + l))) (groups * lanes) ⌝ }
+    ensures { λ _. ⌜ now (audio .exit) ≡ fillFrom (now (audio .entry)) start (λ (l : ℕ). fourAt (now (xs .entry)) p g l (startAt over x (now (audio .entry)) (start + l))) (groups * lanes) ⌝ }
 {
     let mut k = 0usize;
     while k < groups {
         let o = k * 16;
         let q = further(p, o);
-        four_group(audio, start + o, xs, q, g);
+        four_group(audio, over, x, start + o, xs, q, g);
         k += 1;
     }
 }
@@ -404,9 +413,10 @@ fn levels_of(gains: &[f32], i: usize) -> Levels
     }
 }
 
-// four routes added over the rows of `len` frames
+// the four routes of a pass over the rows of `len` frames
 fn four_rows(
     audio: &mut [f32],
+    over: bool,
     pass: Pass,
     starts: &[usize],
     steps: &[usize],
@@ -416,7 +426,7 @@ fn four_rows(
     len: usize,
 )
     requires { ⌜ Within (now starts) (now steps) (now gains) (now samples) pass (frame + len) × (pass .count ≡ 4) × (len * pass .width ≤ length (now audio)) × (pass .bound ≡ false) ⌝ }
-    ensures { λ _. ⌜ now (audio .exit) ≡ someRows true (now (starts .entry)) (now (steps .entry)) (now (gains .entry)) (now (samples .entry)) pass 0 frame len (now (audio .entry)) ⌝ }
+    ensures { λ _. ⌜ now (audio .exit) ≡ someRows over (now (starts .entry)) (now (steps .entry)) (now (gains .entry)) (now (samples .entry)) pass 0 frame len (now (audio .entry)) ⌝ }
 {
     let s = four_of(starts, pass.first);
     let t = four_of(steps, pass.first);
@@ -426,7 +436,16 @@ fn four_rows(
     let mut n = 0usize;
     while n < len {
         let p = places_at(s, t, frame + n, from);
-        four_row(audio, n * width + from, pass.groups, samples, p, g);
+        four_row(
+            audio,
+            over,
+            pass.begun,
+            n * width + from,
+            pass.groups,
+            samples,
+            p,
+            g,
+        );
         n += 1;
     }
 }
@@ -439,23 +458,6 @@ fn last(bound: bool, n: usize, count: usize) -> bool
         return bound;
     }
     false
-}
-
-// the first n routes of a pass
-fn head(pass: Pass, n: usize) -> Pass
-    ensures { λ r. ⌜ r ≡ headOf pass n ⌝ }
-{
-    Pass {
-        begun: pass.begun,
-        bound: last(pass.bound, n, pass.count),
-        min: pass.min,
-        max: pass.max,
-        first: pass.first,
-        count: n,
-        from: pass.from,
-        groups: pass.groups,
-        width: pass.width,
-    }
 }
 
 // n routes of a pass after the first j
@@ -490,21 +492,11 @@ fn most_rows(
     requires { ⌜ Within (now starts) (now steps) (now gains) (now samples) pass (frame + len) × (len * pass .width ≤ length (now audio)) × (4 < pass .count) ⌝ }
     ensures { λ r. ⌜ (r < pass .count) × (now (audio .exit) ≡ sweptRows (now (starts .entry)) (now (steps .entry)) (now (gains .entry)) (now (samples .entry)) (headOf pass r) 0 frame len (now (audio .entry))) ⌝ }
 {
-    some_rows(
-        audio,
-        false,
-        head(pass, 4),
-        starts,
-        steps,
-        gains,
-        samples,
-        frame,
-        len,
-    );
-    let mut j = 4usize;
+    let mut j = 0usize;
     while j + 4 < pass.count {
         four_rows(
             audio,
+            0 < j,
             after(pass, j, 4),
             starts,
             steps,

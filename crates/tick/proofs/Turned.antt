@@ -1,5 +1,6 @@
 -- What a plan's turn puts, and the turns one after the other. Assumes nothing.
 use mathlib.Core.Path.{_≡_, refl, sym, ap, subst, _∙_}
+use mathlib.Core.Bool.{Bool}
 use mathlib.Core.List.{List}
 use Prim.Native.Nat.{ℕ, _+_, _*_, _≤_, _<_}
 use native.Mathlib.Omega.{arith}
@@ -159,12 +160,12 @@ module _ (st : State) (t : Env) (d : ℕ) (w : Job) (m h g a b i : List Float) (
 
 -- ---- the tick
 
-pub job-made : (p : List Plan) (d : ℕ) (r : List Route) (s : Scene) (z : Signals) (chunks plans : ℕ) {y : Plan} → y ≡ getD p d noPlan
-    → _≡_ {A = Job} (record { plan = y; routes = r; scene = s; signals = z; chunks = chunks; plans = plans }) (jobOf p d r s z chunks plans)
-job-made p d r s z chunks plans e = rw e
+pub job-made : (p : List Plan) (d : ℕ) (r : List Route) (s : Scene) (z : Signals) (chunks plans : ℕ) (b : Bool) {y : Plan} → y ≡ getD p d noPlan
+    → _≡_ {A = Job} (record { plan = y; routes = r; scene = s; signals = z; chunks = chunks; plans = plans; simple = b }) (jobOf p d r s z chunks plans b)
+job-made p d r s z chunks plans b e = rw e
 
 -- a plan's job is that of the plan
-pub job-turn : (st : State) (p : List Plan) (c : ℕ) (r : List Route) (s : Scene) (z : Signals) (chunks plans d : ℕ) {w : Job} → w ≡ jobOf p d r s z chunks plans
+pub job-turn : (st : State) (p : List Plan) (c : ℕ) (r : List Route) (s : Scene) (z : Signals) (chunks plans d : ℕ) {w : Job} → w ≡ jobOf p d r s z chunks plans (w .simple)
     → IsTick st p c r (s .stride) chunks plans → IsTurn st d w
 unfolding planAt
 job-turn st p c r s z chunks plans d e k =
@@ -177,7 +178,7 @@ job-turn st p c r s z chunks plans d e k =
       routes = k .routes;
     })
 
-pub job-given : (t : Env) (p : List Plan) (r : List Route) (s : Scene) (z : Signals) (chunks plans d : ℕ) (h g a b i : List Float) {w : Job} → w ≡ jobOf p d r s z chunks plans
+pub job-given : (t : Env) (p : List Plan) (r : List Route) (s : Scene) (z : Signals) (chunks plans d : ℕ) (h g a b i : List Float) {w : Job} → w ≡ jobOf p d r s z chunks plans (w .simple)
     → Given t s z h g a b i → Given t (w .scene) (w .signals) h g a b i
 job-given t p r s z chunks plans d h g a b i e k = rw e k
 

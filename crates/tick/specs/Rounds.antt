@@ -10,7 +10,7 @@ use Rattle.filled.specs.Filled.{noPlan}
 use Rattle.state.specs.declared.State.{State}
 use Rattle.model.specs.Counts.{at}
 use Rattle.model.specs.Env.{Env}
-use Rattle.sum.specs.Job.{baseBy}
+use Rattle.sum.specs.Job.{AreSimple, baseBy}
 use Rattle.slewing.specs.declared.Tick.{Tick}
 use Rattle.slewing.specs.Seen.{Fits}
 use Rattle.sweep.specs.declared.Leads.{Leads}
@@ -19,10 +19,11 @@ use Rattle.turning.specs.declared.Round.{Round}
 use Rattle.tick.specs.declared.Work.{Work}
 use Rattle.tick.specs.Turn.{Given, IsTick}
 
--- sizes below their limits
+-- sizes below their limits, and the simple routes
 pub record Sized (w : Work) : Type 0 where
   pub fits : Fits (w .scene) (w .chunks) (w .plans)
   pub control : w .control ≤ w .plans
+  pub simples : AreSimple (w .routes) (w .simples)
 
 -- what the turns of swept plans go by
 abbrev pub tickBy : Work → Tick

@@ -1,5 +1,6 @@
 -- What a plan's turn and a tick are handed, and that it is the state's and the environment's. Definitions only.
 use mathlib.Core.Path.{_≡_}
+use mathlib.Core.Bool.{Bool}
 use mathlib.Core.List.{List}
 use Prim.Native.Nat.{ℕ}
 use lib.ListN.{getD}
@@ -33,8 +34,8 @@ pub record IsTurn (st : State) (d : ℕ) (w : Job) : Type 0 where
   pub routes : st .program .route ≡ w .routes
 
 -- the job of plan d, of plans p and routes r
-abbrev pub jobOf : List Plan → ℕ → List Route → Scene → Signals → ℕ → ℕ → Job
-jobOf p d r s z c n = record { plan = getD p d noPlan; routes = r; scene = s; signals = z; chunks = c; plans = n }
+abbrev pub jobOf : List Plan → ℕ → List Route → Scene → Signals → ℕ → ℕ → Bool → Job
+jobOf p d r s z c n b = record { plan = getD p d noPlan; routes = r; scene = s; signals = z; chunks = c; plans = n; simple = b }
 
 -- the program of st has plans p, of which k are control plans, and routes r; its sizes are these
 pub record IsTick (st : State) (p : List Plan) (k : ℕ) (r : List Route) (s c n : ℕ) : Type 0 where

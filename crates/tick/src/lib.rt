@@ -11,7 +11,7 @@ ghost use Rattle.state.specs.declared.State.{State};
 ghost use Rattle.model.specs.Env.{Env, Rows, Own};
 ghost use Rattle.model.specs.Mix.{Mix};
 ghost use Rattle.model.specs.Tick.{heldSum, turn, turns, tickOf};
-ghost use Rattle.sum.specs.Job.{Bounded, laneCount, Sums};
+ghost use Rattle.sum.specs.Job.{AreSimple, Bounded, laneCount, Sums};
 ghost use Rattle.slewing.specs.Put.{newNeed, IsNew};
 ghost use Rattle.slewing.specs.Rows.{IsRow};
 ghost use Rattle.slewing.specs.Seen.{Fits};
@@ -86,11 +86,13 @@ pub fn job_of(
     signals: Signals,
     chunks: usize,
     plans: usize,
+    simples: [bool; SLOTS],
 ) -> Job
-    requires { ⌜ Fits scene chunks plans × (d < plans) ⌝ }
-    ensures { λ r. ⌜ (r ≡ jobOf plan d routes scene signals chunks plans) × Bounded r × (d < r .plans) ⌝ }
+    requires { ⌜ Fits scene chunks plans × (d < plans) × AreSimple routes simples ⌝ }
+    ensures { λ r. ⌜ (r ≡ jobOf plan d routes scene signals chunks plans (r .simple)) × Bounded r × (d < r .plans) ⌝ }
 {
     let p = plan[d];
+    let simple = sum::some_simple(simples, p.first, p.count);
     Job {
         plan: p,
         routes,
@@ -98,11 +100,12 @@ pub fn job_of(
         signals,
         chunks,
         plans,
+        simple,
     }
 }
 
 // What a tick is worked out from, besides the lent numbers: the plans, of which `plans` are there and the first `control` are control plans, the routes, scene and
-// signals, how many chunks a plan has room for, and the phase.
+// signals, how many chunks a plan has room for, the phase, and which routes are simple.
 pub struct Work {
     pub plan: [Plan; SLOTS],
     pub control: usize,
@@ -112,6 +115,7 @@ pub struct Work {
     pub chunks: usize,
     pub plans: usize,
     pub phase: usize,
+    pub simples: [bool; SLOTS],
 }
 
 // what each route is swept by
@@ -134,7 +138,9 @@ fn round_of(work: Work) -> Round
     let scene = work.scene;
     let voices = scene.voices;
     let active = voices.active;
-    let field = turning::field_at(active, scene.stride, scene.frame, scene.up_to);
+    let simples = work.simples;
+    let some = sum::some_simple(simples, 0, SLOTS);
+    let field = turning::field_at(some, active, scene.stride, scene.frame, scene.up_to);
     let tick = slewing::tick_of(scene, work.phase, true);
     Round {
         field,
@@ -177,7 +183,17 @@ fn turn_at(
     let routes = work.routes;
     let scene = work.scene;
     let signals = work.signals;
-    let job = job_of(plan, d, routes, scene, signals, work.chunks, work.plans);
+    let simples = work.simples;
+    let job = job_of(
+        plan,
+        d,
+        routes,
+        scene,
+        signals,
+        work.chunks,
+        work.plans,
+        simples,
+    );
     turn(
         values,
         new,
@@ -257,6 +273,7 @@ pub fn tick(
     if control == 0 {
         return;
     }
+    let simples = sum::simples_of(routes);
     let work = Work {
         plan,
         control,
@@ -266,6 +283,7 @@ pub fn tick(
         chunks,
         plans,
         phase,
+        simples,
     };
     let mut new = slewing::room();
     turns_of(

@@ -61,11 +61,20 @@ fn no_field(stride: usize) -> Field
     }
 }
 
-// The field of a tick that reads at `frame`, of frames up to `up_to`; where there are none such, it is off.
-pub fn field_at(active: [bool; VOICES], stride: usize, frame: usize, up_to: usize) -> Field
+// The field of a tick that reads at `frame`, of frames up to `up_to`; where there are none such, or no route is simple, it is off.
+pub fn field_at(
+    some: bool,
+    active: [bool; VOICES],
+    stride: usize,
+    frame: usize,
+    up_to: usize,
+) -> Field
     requires { ⌜ stride ≤ 64 ⌝ }
     ensures { λ r. ⌜ Fielded active stride 1 r × (r .on ≡ true → (frame < «up_to») × («up_to» ≤ mostFrames)) ⌝ }
 {
+    if !some {
+        return no_field(stride);
+    }
     if up_to <= frame {
         return no_field(stride);
     }
@@ -288,8 +297,8 @@ fn is_turned(field: Field, plan: Plan, steps: &[usize], from: usize, len: usize)
     sweep::is_swept(field, plan, steps)
 }
 
-// The turns of the control plans from plan `first` on, up to the first that is not swept: which that is, or their count.
-pub fn turns(
+// the turns of the control plans from plan `first` on, up to the first that is not swept: which that is, or their count
+fn turns_from(
     values: &mut [f32],
     round: Round,
     plans: [Plan; SLOTS],
@@ -327,4 +336,37 @@ pub fn turns(
         d += 1;
     }
     d
+}
+
+// The same; none is swept where the field is off.
+pub fn turns(
+    values: &mut [f32],
+    round: Round,
+    plans: [Plan; SLOTS],
+    first: usize,
+    bases: &[f32],
+    starts: &[usize],
+    steps: &[usize],
+    gains: &[f32],
+    offsets: &[f32],
+    samples: &[f32],
+) -> usize
+    requires { ⌜ Ready round (now samples) (now starts) (now steps) (now gains) (now offsets) × (length (now bases) ≡ slots) × (first ≤ round .control) ⌝ }
+    ensures { λ r. ⌜ (first ≤ r) × (r ≤ round .control) × ((st : State) (t : Env) (m : List Float) → Prepared st t round plans (now (bases .entry)) (now (samples .entry)) (now (starts .entry)) (now (steps .entry)) (now (gains .entry)) (now (offsets .entry)) → now (values .entry) ≡ turns st t (round .tick .phase) first m → now (values .exit) ≡ turns st t (round .tick .phase) r m) ⌝ }
+{
+    if !round.field.on {
+        return first;
+    }
+    turns_from(
+        values,
+        round,
+        plans,
+        first,
+        bases,
+        starts,
+        steps,
+        gains,
+        offsets,
+        samples,
+    )
 }

@@ -1,66 +1,44 @@
--- `group::look_lanes` meets its contract. The invariant: the lanes below l are done.
-use mathlib.Core.Path.{_≡_, refl}
-use Prim.Native.Nat.{ℕ, _+_, _-_, _*_, _≤_, _<_}
+-- `group::look_lanes` meets its contract.
 use native.Mathlib.Omega.{arith}
-use lib.ListN.{length}
-use lib.Ieee.{Float, ofBits}
-use Rattle.sum.proofs.Lanes.{Laned, laned-none, laned-more}
+use lib.ListN.{getD}
 use borrow.Author.Needs.{needs}
 use Rattle.model.specs.Counts.{at}
-use Rattle.number.specs.Number.{one32, plus, less, times, nearest32}
-use Rattle.table.specs.Table.{cellAt, between}
+use Rattle.group.proofs.Cells.{looked}
 use Rattle.group.proofs.look_lanes.Statement.{statement}
 use Rattle.group.proofs.look_lanes.Tie as tie
 
-abbrev Inv-loop : tie.InvT-loop
-Inv-loop tables start out₀ l₀ out l = (l ≤ 16) × (length out₀ ≡ 16) × Laned (λ (i : ℕ) (y z : Float). z ≡ between (at tables (start + cellAt y)) (at tables (start + (cellAt y + 1))) (less y (nearest32 (cellAt y)))) l out₀ out
+cell-lanes-requires : tie.Need-cell-lanes-requires
+cell-lanes-requires c κs = search needs
 
-abbrev μ-loop : tie.MeasureT-loop
-μ-loop tables start out₀ l₀ out l = 16 - l
+points-at-requires : tie.Need-points-at-requires
+points-at-requires c κs = (omega arith, c .cell-lanes .ensures .few)
 
-loop-holds : tie.Need-loop-holds Inv-loop μ-loop
-loop-holds c = (search needs, search needs, laned-none _ _)
+add-points-at : tie.Need-add-points-at
+add-points-at c = search needs
 
-mul-p : tie.Need-mul-p Inv-loop μ-loop
-mul-p c = search needs
+points-at-requires-2 : tie.Need-points-at-requires-2
+points-at-requires-2 c κs = (omega arith, c .before .cell-lanes .ensures .few)
 
-array-read-p : tie.Need-array-read-p Inv-loop μ-loop
-array-read-p c = search needs
+between-lanes-requires : tie.Need-between-lanes-requires
+between-lanes-requires c κs = c .before .before .cell-lanes .ensures .few
 
-look-in-requires : tie.Need-look-in-requires Inv-loop μ-loop
-look-in-requires c κs = search needs
-
-mul-out : tie.Need-mul-out Inv-loop μ-loop
-mul-out c = search needs
-
-array-write-out : tie.Need-array-write-out Inv-loop μ-loop
-array-write-out c = search needs
-
-add-l : tie.Need-add-l Inv-loop μ-loop
-add-l c = search needs
-
-loop-less : tie.Need-loop-less Inv-loop μ-loop
-loop-less c = omega arith
-
-loop-again : tie.Need-loop-again Inv-loop μ-loop
-loop-again c = let i = c .before .before .loop in (omega arith, i .inv .1, laned-more (i .inv .2) (omega arith) (c .look-in .ensures))
-
-returns : tie.Need-returns Inv-loop μ-loop
-returns c = λ l h. c .before .loop .inv .2 .done l (omega arith)
+returns : tie.Need-returns
+returns c =
+    λ l h.
+    let a = c .before .before .before .before .before .args in
+    let cells = c .before .before .before .cell-lanes in
+    let here = c .before .before .points-at in
+    let next = c .before .points-at2 in
+    looked (a .tables .now) (a .start) (getD (cells .result) l 0) (at (a .row) l) (at (here .result) l) (at (next .result) l) (at (c .between-lanes .result) l)
+    (cells .ensures .each l h) (here .ensures l h) (next .ensures l h) (c .between-lanes .ensures l h)
 
 pub look-lanes-spec : {M : Type 1} → statement M
 look-lanes-spec =
     tie.close
     (tie.spec
-    Inv-loop
-    μ-loop
-    loop-holds
-    mul-p
-    array-read-p
-    look-in-requires
-    mul-out
-    array-write-out
-    add-l
-    loop-less
-    loop-again
+    cell-lanes-requires
+    points-at-requires
+    add-points-at
+    points-at-requires-2
+    between-lanes-requires
     returns)

@@ -40,7 +40,7 @@ part-frames-start c = search needs
 part-frames-end : tie.Need-part-frames-end
 part-frames-end c = let b = c .before .before .before .before .before .before .before .before .before .before .before .before .before in
     let a = b .args in
-    rows-within (a .work) (a .chunk) _ (a .d) _ _ _ _ (c .before .before .before .before .before .job-of .ensures) (c .before .before .before .before .lane-count .ensures .0) (c .before .before .before .audio-at .ensures .0) (c .before .before .row-at .ensures .0) (b .pre .0) (b .pre .1) (b .pre .2)
+    rows-within (a .work) (a .chunk) _ (a .d) _ _ _ _ (c .before .before .before .before .before .job-of .ensures .0) (c .before .before .before .before .lane-count .ensures .0) (c .before .before .before .audio-at .ensures .0) (c .before .before .row-at .ensures .0) (b .pre .0) (b .pre .1) (b .pre .2)
 
 slice-aggregate-frames : tie.Need-slice-aggregate-frames
 slice-aggregate-frames c = search needs
@@ -64,8 +64,8 @@ returns c = let b = c .before .before .before .before .before .before .before .b
     λ st e.
     plan-done st (a .work) e (a .held .now) (a .globals .now) (a .bases .now) (a .tables .now) (a .samples .now) (a .chunk) (a .d) from (from + c .before .before .before .before .before .before .before .before .before .before .row-at .result) (c .before .before .before .before .before .before .before .before .before .before .before .before .lane-count .result)
     (a .values .now) (a .audio .now) _ _
-    (c .before .before .before .before .before .before .before .before .before .before .before .before .before .job-of .ensures) (c .before .before .before .before .before .before .before .before .before .before .before .before .lane-count .ensures .0) (c .before .before .before .before .before .before .before .before .before .before .before .audio-at .ensures .0) (ap (λ (n : ℕ). from + n) (c .before .before .before .before .before .before .before .before .before .before .row-at .ensures .0))
-    (rows-within (a .work) (a .chunk) _ (a .d) _ _ _ _ (c .before .before .before .before .before .before .before .before .before .before .before .before .before .job-of .ensures) (c .before .before .before .before .before .before .before .before .before .before .before .before .lane-count .ensures .0) (c .before .before .before .before .before .before .before .before .before .before .before .audio-at .ensures .0) (c .before .before .before .before .before .before .before .before .before .before .row-at .ensures .0) (b .pre .0) (b .pre .1) (b .pre .2))
+    (c .before .before .before .before .before .before .before .before .before .before .before .before .before .job-of .ensures .0) (c .before .before .before .before .before .before .before .before .before .before .before .before .lane-count .ensures .0) (c .before .before .before .before .before .before .before .before .before .before .before .audio-at .ensures .0) (ap (λ (n : ℕ). from + n) (c .before .before .before .before .before .before .before .before .before .before .row-at .ensures .0))
+    (rows-within (a .work) (a .chunk) _ (a .d) _ _ _ _ (c .before .before .before .before .before .before .before .before .before .before .before .before .before .job-of .ensures .0) (c .before .before .before .before .before .before .before .before .before .before .before .before .lane-count .ensures .0) (c .before .before .before .before .before .before .before .before .before .before .before .audio-at .ensures .0) (c .before .before .before .before .before .before .before .before .before .before .row-at .ensures .0) (b .pre .0) (b .pre .1) (b .pre .2))
     (c .before .before .before .before .before .frames .ensures)
 
 pub plan-frames-spec : {M : Type 1} → statement M

@@ -1,34 +1,25 @@
 -- `sum::tick_begun` meets its contract.
-use borrow.Author.Needs.{needs}
-use mathlib.Core.Path.{ap, _∙_}
+use mathlib.Core.Path.{refl, sym}
 use native.Mathlib.Omega.{arith}
+use borrow.Author.Needs.{needs}
 use lib.ListN.{getD-replicate}
-use lib.Ieee.{Float, nan}
-use Rattle.number.specs.Number.{plus}
-use Rattle.model.specs.Sums.{baseIn}
-use Rattle.input.proofs.Tests.{was-true}
+use lib.Ieee.{nan}
 use Rattle.sum.proofs.Found.{lanes-most}
-use Rattle.sum.proofs.Steps.{begun-bare, begun-plain, plain-wide}
+use Rattle.sum.proofs.Steps.{bare-of, begun-bare}
 use Rattle.sum.proofs.tick_begun.Statement.{statement}
 use Rattle.sum.proofs.tick_begun.Tie as tie
-
-totals-of-requires : tie.Need-totals-of-requires
-totals-of-requires c κs = search needs
 
 returns : tie.Need-returns
 returns c = λ t f s x k e l b.
     let a = c .before .before .before .before .before .before .args in
-    begun-bare t f s x l (c .before .totals-of .ensures t x (k .job) .some) (c .if1 .taken) (getD-replicate 64 l (a .base) nan (omega (arith, lanes-most (a .job) (c .before .before .before .before .before .before .pre), b))) e
+    let fits = c .before .before .before .before .before .before .pre in
+    begun-bare t f s x l (sym (bare-of fits (k .job) (c .if1 .taken))) refl (getD-replicate 64 l (a .base) nan (omega (arith, lanes-most (a .job) fits, b))) e
 
-plain-row-requires : tie.Need-plain-row-requires
-plain-row-requires c κs = search needs
+tick-plains-requires : tie.Need-tick-plains-requires
+tick-plains-requires c κs = search needs
 
 returns-2 : tie.Need-returns-2
-returns-2 c = λ t f s x k e l b.
-    let a = c .before .before .before .before .before .before .before .args in
-    let all = c .before .before .totals-of .ensures t x (k .job) in
-    let wide = plain-wide l (k .job) (was-true (all .some) (c .before .if1 .left)) b in
-    begun-plain t f s x l (all .some) (c .before .if1 .left) (c .plain-row .ensures t f s x k (ap (λ (z : Float). plus z (c .before .before .totals-of .result .offset)) e ∙ ap (plus (baseIn t x)) (all .offset)) l wide) (getD-replicate 64 l (a .base) nan (omega (arith, lanes-most (a .job) (c .before .before .before .before .before .before .before .pre), b))) e
+returns-2 c = search needs
 
 pub tick-begun-spec : {M : Type 1} → statement M
-tick-begun-spec = tie.close (tie.spec totals-of-requires returns plain-row-requires returns-2)
+tick-begun-spec = tie.close (tie.spec returns tick-plains-requires returns-2)

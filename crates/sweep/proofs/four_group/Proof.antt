@@ -4,8 +4,8 @@ use borrow.Author.Needs.{needs}
 use Rattle.sweep.proofs.four_group.Statement.{statement}
 use Rattle.sweep.proofs.four_group.Tie as tie
 
-sixteen-requires : tie.Need-sixteen-requires
-sixteen-requires c κs = search needs
+begin-requires : tie.Need-begin-requires
+begin-requires c κs = search needs
 
 four-requires : tie.Need-four-requires
 four-requires c κs = search needs
@@ -18,11 +18,11 @@ same-length c = search needs
 
 returns : tie.Need-returns
 returns c =
-    let b = c .before .before .before in
-    let a = b .before .before .before .before .before .before .args in
-    four-group-done (a .xs .now) (a .p) (a .g) (a .start) _ _ (b .before .before .sixteen .result) (b .before .four .result) (b .before .before .sixteen .ensures) (b .before .four .ensures) (c .before .before .put .ensures)
+    let b = c .before .before .before .before in
+    let a = b .before .before .before .before .before .args in
+    four-group-done (a .over) (a .x) (a .xs .now) (a .p) (a .g) (a .start) _ _ (b .before .begin .result) (b .four .result) (b .before .begin .ensures) (b .four .ensures) (c .before .before .put .ensures)
 
 pub four-group-spec : {M : Type 1} → statement M
 four-group-spec =
     tie.close
-    (tie.spec sixteen-requires four-requires put-requires same-length returns)
+    (tie.spec begin-requires four-requires put-requires same-length returns)

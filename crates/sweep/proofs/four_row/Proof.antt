@@ -11,14 +11,14 @@ use Rattle.sweep.proofs.four_row.Statement.{statement}
 use Rattle.sweep.proofs.four_row.Tie as tie
 
 abbrev Inv-loop : tie.InvT-loop
-Inv-loop audio₀ start groups xs p g k₀ audio k = (k ≤ groups) × (length audio ≡ length audio₀) × (audio ≡ fillFrom audio₀ start (fourLane xs p g start audio₀) (k * lanes))
+Inv-loop audio₀ over x start groups xs p g k₀ audio k = (k ≤ groups) × (length audio ≡ length audio₀) × (audio ≡ fillFrom audio₀ start (fourLane over x xs p g start audio₀) (k * lanes))
 
 abbrev μ-loop : tie.MeasureT-loop
-μ-loop audio₀ start groups xs p g k₀ audio k = groups - k
+μ-loop audio₀ over x start groups xs p g k₀ audio k = groups - k
 
 loop-holds : tie.Need-loop-holds Inv-loop μ-loop
 loop-holds c = let a = c .before .before .args in
-    (search needs, search needs, fours-none (a .xs .now) (a .p) (a .g) (a .start) _)
+    (search needs, search needs, fours-none (a .over) (a .x) (a .xs .now) (a .p) (a .g) (a .start) _)
 
 mul-o : tie.Need-mul-o Inv-loop μ-loop
 mul-o c = let b = c .before .before .before .before in omega (arith, b .pre .1)
@@ -34,7 +34,7 @@ four-group-requires : tie.Need-four-group-requires Inv-loop μ-loop
 four-group-requires c κs = let b = c .before .before .before .before .before .before in
     let a = b .args in
     let i = c .before .before .before .loop in
-    (further-inside (a .xs .now) (a .p) (a .g) (a .start) (i .k) (a .groups) _ (c .before .further .ensures) (omega (arith, c .before .before .loop-test .taken)) (b .pre .0), omega (arith, b .pre .1, i .inv .1, c .before .before .loop-test .taken))
+    (further-inside (a .xs .now) (a .p) (a .g) (i .k) (a .groups) _ (c .before .further .ensures) (omega (arith, c .before .before .loop-test .taken)) (b .pre .0), omega (arith, b .pre .1, i .inv .1, c .before .before .loop-test .taken))
 
 add-k : tie.Need-add-k Inv-loop μ-loop
 add-k c = search needs
@@ -45,7 +45,7 @@ loop-less c = omega arith
 loop-again : tie.Need-loop-again Inv-loop μ-loop
 loop-again c = let a = c .before .before .before .before .before .before .before .before .before .args in
     let i = c .before .before .before .before .before .before .loop in
-    (omega arith, search needs, fours-more (a .xs .now) (a .p) (a .g) (a .start) _ _ _ (i .k) _ (i .inv .2) (c .before .before .before .before .further .ensures) (c .before .before .four-group .ensures))
+    (omega arith, search needs, fours-more (a .over) (a .x) (a .xs .now) (a .p) (a .g) (a .start) _ _ _ (i .k) _ (i .inv .2) (c .before .before .before .before .further .ensures) (c .before .before .four-group .ensures))
 
 same-length : tie.Need-same-length Inv-loop μ-loop
 same-length c = search needs
@@ -53,7 +53,7 @@ same-length c = search needs
 returns : tie.Need-returns Inv-loop μ-loop
 returns c = let a = c .before .before .before .before .args in
     let i = c .before .loop in
-    fours-end (a .xs .now) (a .p) (a .g) (a .start) _ _ (i .k) _ (i .inv .2) (omega arith)
+    fours-end (a .over) (a .x) (a .xs .now) (a .p) (a .g) (a .start) _ _ (i .k) _ (i .inv .2) (omega arith)
 
 pub four-row-spec : {M : Type 1} → statement M
 four-row-spec =

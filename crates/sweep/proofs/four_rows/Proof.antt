@@ -1,6 +1,5 @@
 -- `sweep::four_rows` meets its contract. The invariant: the routes are added in the rows before n.
 use mathlib.Core.Path.{_≡_, refl, sym}
-use mathlib.Core.Bool.{true}
 use Prim.Native.Nat.{ℕ, _+_, _-_, _*_, _≤_, _<_}
 use native.Mathlib.Nat.{zero-add, mul-le-mul-right}
 use native.Mathlib.Omega.{arith}
@@ -8,16 +7,16 @@ use lib.ListN.{length}
 use Rattle.list.proofs.Rows.{row-inside}
 use Rattle.sweep.specs.Sweep.{Within, placesAt, someRows}
 use Rattle.sweep.proofs.Laws.{sooner, rows-none, rows-more, rows-end}
-use Rattle.sweep.proofs.Fours.{up-to, places-same, places-inside, more-row-is}
+use Rattle.sweep.proofs.Fours.{up-to, places-same, places-inside, four-row-is}
 use borrow.Author.Needs.{needs}
 use Rattle.sweep.proofs.four_rows.Statement.{statement}
 use Rattle.sweep.proofs.four_rows.Tie as tie
 
 abbrev Inv-loop : tie.InvT-loop
-Inv-loop audio₀ pass starts steps gains samples frame len s t g from width n₀ audio n = (n ≤ len) × (length audio ≡ length audio₀) × (audio ≡ someRows true starts steps gains samples pass 0 frame n audio₀)
+Inv-loop audio₀ over pass starts steps gains samples frame len s t g from width n₀ audio n = (n ≤ len) × (length audio ≡ length audio₀) × (audio ≡ someRows over starts steps gains samples pass 0 frame n audio₀)
 
 abbrev μ-loop : tie.MeasureT-loop
-μ-loop audio₀ pass starts steps gains samples frame len s t g from width n₀ audio n = len - n
+μ-loop audio₀ over pass starts steps gains samples frame len s t g from width n₀ audio n = len - n
 
 four-of-requires : tie.Need-four-of-requires Inv-loop μ-loop
 four-of-requires c κs = let b = c .before .before .before .before .before in omega (arith, b .pre .0 .starts, b .pre .0 .routes, b .pre .1)
@@ -30,7 +29,7 @@ levels-of-requires c κs = let b = c .before .before .before .before .before .be
 
 loop-holds : tie.Need-loop-holds Inv-loop μ-loop
 loop-holds c = let a = c .before .before .before .before .before .before .before .before .args in
-    (search needs, search needs, rows-none true (a .starts .now) (a .steps .now) (a .gains .now) (a .samples .now) (a .pass) (a .frame) 0 _)
+    (search needs, search needs, rows-none (a .over) (a .starts .now) (a .steps .now) (a .gains .now) (a .samples .now) (a .pass) (a .frame) 0 _)
 
 add-places-at : tie.Need-add-places-at Inv-loop μ-loop
 add-places-at c = let b = c .before .before .before .before .before .before .before .before .before .before in
@@ -45,7 +44,7 @@ places-at-requires c κs =
     let w : Within (a .starts .now) (a .steps .now) (a .gains .now) (a .samples .now) (a .pass) (k + 1) = sooner (a .starts .now) (a .steps .now) (a .gains .now) (a .samples .now) (a .pass) (omega (arith, c .loop-test .taken)) (b .pre .0) in
     let t = placesAt (d .before .before .four-of .result) (d .before .four-of2 .result) k (a .pass .from) in
     up-to t _ (length (a .samples .now)) _ (places-inside (a .starts .now) (a .steps .now) (a .gains .now) (a .samples .now) (a .pass) k t w (b .pre .1)
-    (places-same _ _ _ _ k (a .pass .from) t refl (d .before .before .four-of .ensures) (d .before .four-of2 .ensures))) (omega (arith, b .good .1 .1 .1 .1 .1 .0))
+    (places-same _ _ _ _ k (a .pass .from) t refl (d .before .before .four-of .ensures) (d .before .four-of2 .ensures))) (omega (arith, b .good .1 .1 .1 .1 .1 .1 .0))
 
 mul-four-row : tie.Need-mul-four-row Inv-loop μ-loop
 mul-four-row c = let d = c .before .before .before .before in
@@ -90,8 +89,8 @@ loop-again c =
     let i = e .before .before .before .loop in (
       omega arith,
       search needs,
-      rows-more true (a .starts .now) (a .steps .now) (a .gains .now) (a .samples .now) (a .pass) (a .frame) 0 _ _ _ (i .n) (i .n * a .pass .width) (i .inv .2) (sym (zero-add (i .n * a .pass .width)))
-          (more-row-is (a .starts .now) (a .steps .now) (a .gains .now) (a .samples .now) (a .pass) (a .frame + i .n) _ _ (i .n * a .pass .width) _ _ _ (b .pre .1) (b .pre .3) refl
+      rows-more (a .over) (a .starts .now) (a .steps .now) (a .gains .now) (a .samples .now) (a .pass) (a .frame) 0 _ _ _ (i .n) (i .n * a .pass .width) (i .inv .2) (sym (zero-add (i .n * a .pass .width)))
+          (four-row-is (a .starts .now) (a .steps .now) (a .gains .now) (a .samples .now) (a .pass) (a .frame + i .n) (a .over) _ _ (i .n * a .pass .width) _ _ _ (b .pre .1) (b .pre .3) refl
           (places-same _ _ _ _ (a .frame + i .n) (a .pass .from) _ (e .before .places-at .ensures) (d .before .before .four-of .ensures) (d .before .four-of2 .ensures)) (d .levels-of .ensures) (c .before .before .four-row .ensures)),
     )
 
@@ -101,7 +100,7 @@ same-length c = search needs
 returns : tie.Need-returns Inv-loop μ-loop
 returns c = let a = c .before .before .before .before .before .before .before .before .before .before .args in
     let i = c .before .loop in
-    rows-end true (a .starts .now) (a .steps .now) (a .gains .now) (a .samples .now) (a .pass) (a .frame) 0 _ _ (i .n) _ (i .inv .2) (omega arith)
+    rows-end (a .over) (a .starts .now) (a .steps .now) (a .gains .now) (a .samples .now) (a .pass) (a .frame) 0 _ _ (i .n) _ (i .inv .2) (omega arith)
 
 pub four-rows-spec : {M : Type 1} → statement M
 four-rows-spec =

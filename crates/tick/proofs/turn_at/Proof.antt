@@ -14,7 +14,7 @@ job-of-requires c κs = search needs
 
 turn-requires : tie.Need-turn-requires
 turn-requires c κs =
-    let made = c .before .before .job-of .ensures in (made .1, made .2, c .before .before .before .before .before .before .before .before .before .before .before .before .before .before .before .before .pre .2)
+    let made = c .before .before .job-of .ensures in (made .1, made .2, c .before .before .before .before .before .before .before .before .before .before .before .before .before .before .before .before .before .pre .2)
 
 add-result : tie.Need-add-result
 add-result c = search needs
@@ -27,11 +27,11 @@ same-length-2 c = search needs
 
 returns-2 : tie.Need-returns-2
 returns-2 c =
-    let a = c .before .before .before .before .before .before .before .before .before .before .before .before .before .before .before .before .before .before .before .before .before .args in
+    let a = c .before .before .before .before .before .before .before .before .before .before .before .before .before .before .before .before .before .before .before .before .before .before .args in
     let w = a .work in
     let made = c .before .before .before .before .before .before .before .job-of .ensures .0 in (
       omega arith,
-      omega (arith, c .before .before .before .before .before .before .before .before .before .before .before .before .if1 .left),
+      omega (arith, c .before .before .before .before .before .before .before .before .before .before .before .before .before .if1 .left),
       λ h. omega arith,
       λ st t m k e.
           turns-more st t (w .phase) m (a .d) (a .values .now) _ e

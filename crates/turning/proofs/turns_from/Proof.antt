@@ -1,4 +1,4 @@
--- `turning::turns` meets its contract. The invariant: the plans before d had their turn.
+-- `turning::turns_from` meets its contract. The invariant: the plans before d had their turn.
 use Rattle.turning.specs.Turns.{Prepared, turned}
 use mathlib.Core.Path.{_≡_, refl, ap, _∙_}
 use native.Mathlib.Omega.{arith}
@@ -15,8 +15,8 @@ use Rattle.model.specs.Tick.{rowsOf, ownOf, turns}
 use Rattle.input.proofs.Tests.{was-true}
 use Rattle.turning.proofs.Turned.{sums-of, ticks-of, plan-turned, turns-more}
 use borrow.Author.Needs.{needs}
-use Rattle.turning.proofs.turns.Statement.{statement}
-use Rattle.turning.proofs.turns.Tie as tie
+use Rattle.turning.proofs.turns_from.Statement.{statement}
+use Rattle.turning.proofs.turns_from.Tie as tie
 
 abbrev Inv-loop : tie.InvT-loop
 Inv-loop values₀ round first bases starts steps gains offsets samples plans field d₀ values d = (first ≤ d) × (d ≤ round .control) × (length values ≡ length values₀) × (length plans ≡ 64)
@@ -93,8 +93,8 @@ same-length-2 c = search needs
 returns-2 : tie.Need-returns-2 Inv-loop μ-loop
 returns-2 c = let i = c .before .before .loop in (i .inv .0, i .inv .1, i .inv .4)
 
-pub turns-spec : {M : Type 1} → statement M
-turns-spec =
+pub turns-from-spec : {M : Type 1} → statement M
+turns-from-spec =
     tie.close
     (tie.spec
     Inv-loop
