@@ -16,8 +16,10 @@ everything printed afterwards is that of an engine that never saw the refused ca
 The Rust's own buffer offsets (PLAN at, out; ROUTE curve, slew, fed and rnd offsets;
 PROGRAM luts, slew, random), its clock, its count of gliding values and its note counters are
 left out of the comparison, and so are `state` and `memory` lines, unless PROGRAM prints
-them. A session for which PROGRAM prints a line that begins `TOO LARGE` (it has no heap, and
-says how much memory it has) is counted apart.
+them. One generated session in eight has a word that is no command, at which both must end with
+`ERROR line N`. A session for which PROGRAM prints a line that begins `TOO LARGE` (it has no heap, and
+says how much memory it has) is compared up to that line, and counted apart. PROGRAM's last line must be
+`END n lines`, n being the lines before it.
 
 --clean            sessions without refused calls
 --refused          sessions with refused calls of rows 6, 13 and 14 put in
@@ -57,7 +59,20 @@ def canon(line):
     return line
 
 
+def stop_of(text):
+    """How a session ended before its last line: ERROR or TOO LARGE, and the line's number; or None."""
+    m = re.search(r"^(ERROR|TOO LARGE) line (\d+): ", text, re.M)
+    return (m[1], int(m[2])) if m else None
+
+
+def is_whole(text):
+    """Whether the last line says how many lines stand before it."""
+    lines = text.split("\n")
+    return lines[-1] == "" and lines[-2:-1] == ["END %d lines" % (len(lines) - 2)]
+
+
 def blocks(text):
+    text = re.sub(r"^(?:END \d+ lines|(?:ERROR|TOO LARGE) line .*)$", "", text, flags=re.M)
     out, at = {}, 0
     for line in text.split("\n"):
         if line.startswith("@"):
@@ -81,7 +96,14 @@ def run(binary, text):
 def difference(text, refused, want, got, only=None):
     """The first line at which PROGRAM's output is not what is owed: number, line, what is owed, what it printed."""
     a, b, said, other = blocks(want), blocks(got), owed.stated(text), owed.answers(text)
+    ends, stop = stop_of(want), stop_of(got)
+    if not is_whole(got):
+        return len(text.split("\n")), "", ["END"], got.split("\n")[-2:]
     for n, line in enumerate(text.split("\n"), 1):
+        if stop and stop[0] == "TOO LARGE" and n >= stop[1]:
+            return None
+        if (n,) in (ends and ends[1:], stop and stop[1:]):
+            return None if ends == stop else (n, line, [ends], [stop])
         w = line.split()
         if not w or w[0].startswith("#"):
             continue
@@ -126,16 +148,14 @@ def main():
     t0 = time.time()
     for name, text in sessions:
         seeded = text is None
-        text = text or gen.session(int(name), o.clean, o.mode, o.refused)
+        text = text or gen.broken(gen.session(int(name), o.clean, o.mode, o.refused), int(name))
         refused = owed.owed(text)
         rc, want = run(ORACLE, without(text, refused))
         rc2, got = run(program, text)
         count += 1
-        if re.search(r"^TOO LARGE", got, re.M):
-            large += 1
-            continue
+        large += (stop_of(got) or ("",))[0] == "TOO LARGE"
         d = difference(text, refused, want, got, o.only and o.only.split(","))
-        if rc or rc2 or d:
+        if rc != (2 if stop_of(want) else 0) or rc2 or d:
             bad += 1
             print("%s: exit %d and %d, first difference %s" % (name, rc, rc2, d))
             if o.keep and seeded:

@@ -34,7 +34,7 @@ def answer(text, fault="", line=0):
         result.append("@%d %s" % (n, word))
         if not (fault == "quiet" and word in ("state", "memory")):
             result += printed[n]
-    return "\n".join(result) + "\n"
+    return "\n".join(result + ["END %d lines" % len(result)]) + "\n"
 
 
 if __name__ == "__main__":

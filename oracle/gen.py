@@ -779,6 +779,21 @@ def session(seed, clean=False, mode=None, refused=False):
     return with_refused(seed, text) if refused else text
 
 
+def broken(text, seed):
+    """The session, in one of eight with a line whose first word is no command: misspelt, doubled, in capitals, with a byte before it, or noise."""
+    r = random.Random("broken %d" % seed)
+    if r.randrange(8):
+        return text
+    lines = text.split("\n")
+    i = r.randrange(len(lines))
+    words = [l.split()[0] for l in lines if l.split() and not l.startswith("#")]
+    w = r.choice(words)
+    k = r.randrange(len(w))
+    bad = r.choice([w[:k] + w[k + 1:], w[:k] + w[k] + w[k:], w.upper(), "\ufeff" + w, w + "_", w[:k] + "?" + w[k:], "%x" % r.getrandbits(60)])
+    rest = r.choice(["", " 0", " 0 00000000", " " + " ".join(lines[i].split()[1:])])
+    return "\n".join(lines[:i] + [(bad if bad and bad not in words and bad[0] != "#" else "x" + w) + rest] + lines[i:])
+
+
 def with_refused(seed, text):
     """The session with calls of rows 6, 13 and 14 put in here and there, once there is an engine."""
     import owed

@@ -54,7 +54,7 @@ def blocks(text):
     for line in text.split("\n"):
         if line.startswith("@"):
             at = int(line[1:].split()[0])
-        elif line.strip() and not line.startswith("S order"):
+        elif line.strip() and not line.startswith(("S order", "END ")):
             out.setdefault(at, []).append(line.rstrip())
     return out
 
@@ -63,7 +63,7 @@ def quiet_blocks(binary, text):
     """The same for a session that prints no `@` lines: what each line adds to the output."""
     lines, out, before = text.split("\n"), {}, ""
     for n in range(1, len(lines) + 1):
-        now = compare.run(binary, "\n".join(lines[:n]) + "\n")[1]
+        now = re.sub(r"^END \d+ lines\n", "", compare.run(binary, "\n".join(lines[:n]) + "\n")[1], flags=re.M)
         if now != before:
             out[n] = now[len(before):].rstrip("\n").split("\n")
         before = now

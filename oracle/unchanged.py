@@ -47,7 +47,7 @@ def answers(text):
         if line.startswith("@"):
             at = int(line[1:].split()[0])
             out[at] = []
-        elif line:
+        elif line and not line.startswith("END "):
             out.setdefault(at, []).append(line)
     return out
 

@@ -1,4 +1,7 @@
 // Which line is which, and what is printed above a line's answers and where it is refused (oracle/README.md, Session format).
+ghost use mathlib.Core.Path.{_≡_};
+ghost use Prim.Native.Nat.{_≤_};
+ghost use Rattle.answer.specs.Endings.{afterCode, statusOf};
 use book::PRINT;
 use book::THERE;
 use preset::LONG_TABLES;
@@ -14,7 +17,16 @@ const LONG_LINE: u8 = 115;
 // A word that begins no line of the format.
 const UNKNOWN: u8 = 101;
 
+// The input can't be read to its end.
+const UNREAD: u8 = 102;
+
 // ---- commands, by their numbers
+
+// How many commands there are. A word that is none of them has this number.
+const COMMANDS: usize = 39;
+
+// The number of a line with nothing to answer: it is blank, or a comment.
+pub const NOTHING: usize = 40;
 
 fn command_of(w: &[u8]) -> usize {
     words::index(
@@ -47,8 +59,10 @@ fn asks_engine(c: usize) -> bool {
 }
 
 // What is wrong with a line of n words by its command alone; 0: nothing.
-pub fn misfit(c: usize, n: usize, all: bool, book: &[usize]) -> u8 {
-    if 38 < c {
+pub fn misfit(c: usize, n: usize, all: bool, book: &[usize]) -> u8
+    ensures { λ r. ⌜ (39 ≤ c → r ≡ 101) ⌝ }
+{
+    if COMMANDS <= c {
         return UNKNOWN;
     }
     if !all {
@@ -83,6 +97,9 @@ fn head(number: u64, w: &[u8], out: &mut [u8], at: usize) -> usize {
 
 fn headed(c: usize, number: u64, w: &[u8], book: &[usize], out: &mut [u8], at: usize) -> usize {
     if c == 14 {
+        return at;
+    }
+    if c == COMMANDS {
         return at;
     }
     if is_quiet(book) {
@@ -147,14 +164,30 @@ fn large(code: u8, out: &mut [u8], at: usize) -> usize {
 }
 
 fn error(code: u8, out: &mut [u8], at: usize) -> usize {
-    if code == UNKNOWN {
-        return show::put(out, at, b"not a command\n");
+    if code == UNREAD {
+        return show::put(out, at, b"the input can't be read\n");
     }
     show::put(
         out,
         at,
         b"a word that does not belong there, or nothing there that it names\n",
     )
+}
+
+// The first word of a line, which is no command: the session ends.
+fn unknown(w: &[u8], number: u64, out: &mut [u8], at: usize) -> usize {
+    let p = show::whole_after(out, at, b"ERROR line ", number);
+    let q = show::put(out, p, b": ");
+    let r = show::quoted(out, q, w);
+    show::put(out, r, b" is no command\n")
+}
+
+// The words by which the session ends at a line.
+pub fn stopped(code: u8, number: u64, line: &[u8], out: &mut [u8], at: usize) -> usize {
+    if code == UNKNOWN {
+        return unknown(session::word(line, 0), number, out, at);
+    }
+    coded(code, number, out, at)
 }
 
 // The number by which a line was refused, or the words by which the session ends
@@ -170,6 +203,54 @@ pub fn coded(code: u8, number: u64, out: &mut [u8], at: usize) -> usize {
     let p = show::whole_after(out, at, b"TOO LARGE line ", number);
     let q = show::put(out, p, b": ");
     large(code, out, q)
+}
+
+// ---- how a session ends
+
+// Whether a session ends by a code.
+pub fn ends(code: u8) -> bool {
+    15 < code
+}
+
+// The code of a session after a line: the last one that is not 0.
+pub fn after(before: u8, code: u8) -> u8
+    ensures { λ r. ⌜ r ≡ afterCode before code ⌝ }
+{
+    if code == 0 {
+        return before;
+    }
+    code
+}
+
+// The digit that says how a session ended whose code this is: 0, all was accepted; 1, an error; 3, too large; 4, output was
+// lost; 5, some call was refused.
+pub fn status(code: u8, lost: bool) -> u8
+    ensures { λ r. ⌜ r ≡ statusOf code lost ⌝ }
+{
+    if lost {
+        return 4;
+    }
+    if code == 0 {
+        return 0;
+    }
+    if code < 16 {
+        return 5;
+    }
+    if code < MANY_TABLES {
+        return 1;
+    }
+    3
+}
+
+// The code of a session whose input can't be read to its end where `failed` says so.
+pub fn unread(code: u8, failed: bool) -> u8 {
+    if ends(code) {
+        return 0;
+    }
+    if failed {
+        return UNREAD;
+    }
+    0
 }
 
 // What a line that came to a code prints; nothing where that is 0
@@ -209,14 +290,14 @@ fn is_silent(w: &[u8]) -> bool {
     w[0] == 35
 }
 
-// The line in hand, once what stands above its answers is printed. A line with nothing to answer has the command 39.
+// The line in hand, once what stands above its answers is printed: nothing above a word that is no command.
 pub fn begun(at: usize, number: u64, line: &[u8], book: &[usize], out: &mut [u8]) -> Hand {
     let w = session::word(line, 0);
     if is_silent(w) {
         return Hand {
             at,
             number,
-            c: 39,
+            c: NOTHING,
             n: 0,
         };
     }

@@ -1,12 +1,14 @@
 // The lines of a text that is read in pieces: a buffer of which the bytes from `start` to before `end` are still to come.
-ghost use Prim.Native.Nat.{_+_, _≤_};
+ghost use Prim.Native.Nat.{_+_, _<_, _≤_};
 ghost use lib.ListN.{length};
 
-// `last`: nothing comes after these bytes. `inside`: they belong to a line that has been answered. `number`: how many lines began before them.
+// `last`: nothing comes after these bytes. `failed`: because the input can't be read. `inside`: they belong to a line that has
+// been answered. `number`: how many lines began before them.
 pub struct Reader {
     pub start: usize,
     pub end: usize,
     pub last: bool,
+    pub failed: bool,
     pub inside: bool,
     pub number: u64,
 }
@@ -17,6 +19,7 @@ pub fn first() -> Reader {
         start: 0,
         end: 0,
         last: false,
+        failed: false,
         inside: false,
         number: 0,
     }
@@ -30,15 +33,6 @@ fn moved(buffer: &mut [u8], from: usize, n: usize)
         buffer[i] = buffer[from + i];
         i += 1usize;
     }
-}
-
-// reads behind the first n bytes, and answers how many there are then
-fn filled(fd: i32, buffer: &mut [u8], n: usize) -> usize {
-    if buffer.len() <= n {
-        return n;
-    }
-    let got = io::read_full(fd, &mut buffer[n..]);
-    n + got
 }
 
 // where the line at `start` ends: at its line feed, or at `end`
@@ -67,16 +61,21 @@ fn is_feed(buffer: &[u8], i: usize) -> bool {
     false
 }
 
-// the reader with a whole line ahead, or a full buffer, or the last bytes
-fn ready(fd: i32, buffer: &mut [u8], r: Reader) -> Reader {
+// whether a line feed is ahead, or the buffer is full, or nothing more comes
+fn is_ready(buffer: &[u8], r: Reader) -> bool {
     if r.last {
-        return r;
+        return true;
     }
+    if r.start == 0 && buffer.len() <= r.end {
+        return true;
+    }
+    line_end(buffer, r.start, r.end) < r.end
+}
+
+// the bytes still to come at the start of the buffer
+fn lowered(buffer: &mut [u8], r: Reader) -> Reader {
     let start = r.start;
     let end = r.end;
-    if line_end(buffer, start, end) < end {
-        return r;
-    }
     if buffer.len() < end {
         return r;
     }
@@ -84,14 +83,64 @@ fn ready(fd: i32, buffer: &mut [u8], r: Reader) -> Reader {
         return r;
     }
     moved(buffer, start, end - start);
-    let n = filled(fd, buffer, end - start);
-    Reader {
-        start: 0,
-        end: n,
-        last: n < buffer.len(),
-        inside: r.inside,
-        number: r.number,
+    let mut next = r;
+    next.start = 0;
+    next.end = end - start;
+    next
+}
+
+// nothing more comes
+fn over(r: Reader, failed: bool) -> Reader {
+    let mut next = r;
+    next.last = true;
+    next.failed = failed;
+    next
+}
+
+// with what one more read brings
+fn read_more(fd: i32, buffer: &mut [u8], r: Reader) -> Reader {
+    let end = r.end;
+    if buffer.len() <= end {
+        return over(r, false);
     }
+    let got = libc::read(fd, &mut buffer[end..]);
+    if got <= 0 {
+        return over(r, got < 0);
+    }
+    let mut next = r;
+    next.end = end + io::count(got, &buffer[end..]);
+    next
+}
+
+fn fewer(left: usize, ready: bool) -> usize
+    requires { ⌜ 0 < left ⌝ }
+    ensures { λ r. ⌜ r < left ⌝ }
+{
+    if ready {
+        return 0;
+    }
+    left - 1
+}
+
+// reads until a line feed is ahead, or the buffer is full, or nothing more comes: no more often than there are bytes to fill, and once more
+fn read_line(fd: i32, buffer: &mut [u8], r: Reader) -> Reader {
+    let mut next = r;
+    let mut left = 18446744073709551615usize;
+    while 0 < left {
+        let more = read_more(fd, buffer, next);
+        next = more;
+        left = fewer(left, is_ready(buffer, next));
+    }
+    next
+}
+
+// the reader with a whole line ahead, or a full buffer, or the last bytes
+fn ready(fd: i32, buffer: &mut [u8], r: Reader) -> Reader {
+    if is_ready(buffer, r) {
+        return r;
+    }
+    let low = lowered(buffer, r);
+    read_line(fd, buffer, low)
 }
 
 // past the line that ends at `stop`; where there is no line feed there, its rest is still to be passed over
@@ -107,7 +156,8 @@ fn past(r: Reader, stop: usize) -> Reader {
     next
 }
 
-// The bytes from `start` to before `stop`: line `number`, whole where `all` says so; none where they are the rest of a line. `done`: nothing comes any more.
+// The bytes from `start` to before `stop`: line `number`, whole where `all` says so; none where they are the rest of a line.
+// `done`: nothing comes any more, or no whole line and the input can't be read.
 pub struct Coming {
     pub start: usize,
     pub stop: usize,
@@ -117,9 +167,9 @@ pub struct Coming {
     pub reader: Reader,
 }
 
-// a line that has been answered has no bytes
-fn begin(inside: bool, start: usize, stop: usize) -> usize {
-    if inside {
+// a line that has been answered has no bytes, and one that can't be read neither
+fn begin(none: bool, start: usize, stop: usize) -> usize {
+    if none {
         return stop;
     }
     start
@@ -132,18 +182,31 @@ fn counted(number: u64, inside: bool) -> u64 {
     std::num::wrapping_add_u64(number, 1)
 }
 
+fn either(a: bool, b: bool) -> bool {
+    if a { true } else { b }
+}
+
+// whether the line that ends at `stop` can't be read to its end
+fn is_broken(r: Reader, stop: usize) -> bool {
+    if r.failed {
+        return r.end <= stop;
+    }
+    false
+}
+
 fn ahead_of(r: Reader, stop: usize) -> Coming {
     let start = r.start;
     let end = r.end;
     let inside = r.inside;
+    let broken = is_broken(r, stop);
     let number = counted(r.number, inside);
     let mut reader = past(r, stop);
     reader.number = number;
     Coming {
-        start: begin(inside, start, stop),
+        start: begin(either(inside, broken), start, stop),
         stop,
-        all: stop < end || r.last,
-        done: end <= start,
+        all: either(stop < end, r.last),
+        done: either(end <= start, broken),
         number,
         reader,
     }

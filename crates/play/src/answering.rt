@@ -1,5 +1,6 @@
 // The lines about an engine, and every line.
 use answer::Hand;
+use answer::NOTHING;
 use engine::Done;
 use engine::Engine;
 use report::Told;
@@ -25,7 +26,7 @@ fn on_setting(
     let mut next = s;
     next.engine = engine;
     next.at = answer::told(d.code, h.number, out, h.at);
-    next.ended = 15 < d.code;
+    next.code = answer::after(s.code, d.code);
     next
 }
 
@@ -60,7 +61,7 @@ fn with_block(
     let mut next = s;
     next.engine = engine;
     next.at = put_block(d, h, line, book, values, audio, out);
-    next.ended = 15 < d.code;
+    next.code = answer::after(s.code, d.code);
     next
 }
 
@@ -85,7 +86,7 @@ fn on_process(
 fn with_told(s: State, r: Told, number: u64, out: &mut [u8]) -> State {
     let mut next = s;
     next.at = answer::told(r.code, number, out, r.at);
-    next.ended = 15 < r.code;
+    next.code = answer::after(s.code, r.code);
     next
 }
 
@@ -144,10 +145,10 @@ fn on_showing(
 // ---- every line
 
 // a line that is not of the format, or too long
-fn stopped(s: State, h: Hand, code: u8, out: &mut [u8]) -> State {
+fn stopped(s: State, h: Hand, code: u8, line: &[u8], out: &mut [u8]) -> State {
     let mut next = s;
-    next.at = answer::coded(code, h.number, out, h.at);
-    next.ended = true;
+    next.at = answer::stopped(code, h.number, line, out, h.at);
+    next.code = code;
     next
 }
 
@@ -207,12 +208,12 @@ pub fn on_line(
     audio: &mut [f32],
     pool: &mut [f32],
 ) -> After {
-    if h.c == 39 {
+    if h.c == NOTHING {
         return after(s, i, p);
     }
     let code = answer::misfit(h.c, h.n, all, book);
     if code != 0 {
-        return after(stopped(s, h, code, out), i, p);
+        return after(stopped(s, h, code, line, out), i, p);
     }
     if is_whole(h.c) {
         return stage::on_whole(s, p, i, h, out, book, desk, values, audio, pool);

@@ -64,7 +64,7 @@ pub fn start() -> State {
     let signals = engine::no_signals();
     State {
         at: 0,
-        ended: false,
+        code: 0,
         engine,
         signals,
         preset,
@@ -74,4 +74,14 @@ pub fn start() -> State {
 // the line in hand, once what stands above its answers is printed
 pub fn begun(s: State, number: u64, line: &[u8], book: &[usize], out: &mut [u8]) -> Hand {
     answer::begun(s.at, number, line, book, out)
+}
+
+// The end of a session, whose input can't be read to its end where `failed` says so: the last line of its trace, and the digit that
+// says how it ended.
+pub fn end(s: State, failed: bool, number: u64, out: &mut [u8]) {
+    let code = answer::unread(s.code, failed);
+    let at = answer::told(code, number, out, s.at);
+    show::end(out, at);
+    let lost = show::is_lost(out);
+    show::status(answer::status(answer::after(s.code, code), lost));
 }

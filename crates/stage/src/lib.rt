@@ -10,10 +10,10 @@ use state::Program;
 use state::Signals;
 use state::Sources;
 
-// What a session has said so far, but for the memories and the programs. `at` bytes of output wait; `ended`: no line is answered any more.
+// What a session has said so far, but for the memories and the programs. `at` bytes of output wait; `code`: of the last line that was refused, or that ended the session.
 pub struct State {
     pub at: usize,
-    pub ended: bool,
+    pub code: u8,
     pub engine: Engine,
     pub signals: Signals,
     pub preset: Preset,
@@ -48,7 +48,7 @@ fn with_changed(s: State, h: Hand, r: Changed, book: &mut [usize], out: &mut [u8
     let mut next = s;
     next.preset = preset;
     next.at = answer::put_changed(h, r.code, r.a, r.b, book, out);
-    next.ended = 15 < r.code;
+    next.code = answer::after(s.code, r.code);
     next
 }
 
@@ -87,7 +87,7 @@ pub fn on_standard(s: State, h: Hand, line: &[u8], out: &mut [u8], book: &[usize
     if code != 0 {
         let mut next = s;
         next.at = answer::coded(code, h.number, out, h.at);
-        next.ended = 15 < code;
+        next.code = answer::after(s.code, code);
         return next;
     }
     let sources = made.sources;
@@ -114,7 +114,7 @@ fn with_whole(s: State, r: Whole, h: Hand, book: &[usize], out: &mut [u8]) -> Af
     state.engine = engine;
     state.signals = signals;
     state.at = put_whole(r, h, book, out);
-    state.ended = 15 < r.code;
+    state.code = answer::after(s.code, r.code);
     After {
         state,
         i: r.i,
@@ -171,6 +171,6 @@ pub fn on_lending(
     let mut next = s;
     next.signals = signals;
     next.at = answer::told(b.code, h.number, out, h.at);
-    next.ended = 15 < b.code;
+    next.code = answer::after(s.code, b.code);
     next
 }

@@ -3,11 +3,11 @@ ghost use Prim.Native.Nat.{_<_};
 use libc::STDIN_FILENO;
 
 // none where the session is over, else one less
-fn fewer(left: u64, ended: bool, done: bool) -> u64
+fn fewer(left: u64, code: u8, done: bool) -> u64
     requires { ⌜ 0 < left ⌝ }
     ensures { λ r. ⌜ r < left ⌝ }
 {
-    if ended {
+    if 15 < code {
         return 0;
     }
     if done {
@@ -59,9 +59,9 @@ fn run(
         shelf[j] = q;
         let reader = a.reader;
         r = reader;
-        left = fewer(left, s.ended, a.done);
+        left = fewer(left, s.code, a.done);
     }
-    show::flush(out, s.at);
+    play::end(s, r.failed, r.number, out);
 }
 
 // The same on arrays.

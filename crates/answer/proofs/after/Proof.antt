@@ -1,0 +1,16 @@
+-- `answer::after` meets its contract. Assumes nothing.
+use borrow.Author.Tests.{eq-eqb, ne-eqb}
+use Rattle.answer.specs.Endings.{afterCode}
+use Rattle.answer.proofs.after.Statement.{statement}
+use Rattle.answer.proofs.after.Tie as tie
+
+returns : tie.Need-returns
+unfolding afterCode
+returns c = simp (eq-eqb _ _ (c .if1 .taken))
+
+returns-2 : tie.Need-returns-2
+unfolding afterCode
+returns-2 c = simp (ne-eqb _ _ (c .if1 .left))
+
+pub after-spec : {M : Type 1} → statement M
+after-spec = tie.close (tie.spec returns returns-2)
