@@ -1,166 +1,130 @@
 #!/usr/bin/env python3
-"""plot SESSION [PICTURE.svg]
+"""Draws the control values of a session over time: makes its calls with ./trace and writes an SVG beside it.
 
-Draws the control values of a session over time: makes its calls with ./trace and writes an SVG
-beside it (SESSION with .svg in place of its ending, or PICTURE.svg). One panel for each destination
-that has control values: the ramps, one line for each voice from its note until it has ended, and one
-line where the destination is the same for all voices; voices that have the same values all the time
-share a line. Strokes on the time axis are control ticks. Dashed uprights are notes, ends of notes and
-voices, swaps, new engines and refused blocks. Lines `print` and `canon` of the session are passed over.
-Needs python3 alone.
+One panel for each destination that has control values: the ramps, one line for each voice from its note until it has
+ended, and one line where the destination is the same for all voices; voices that have the same values all the time
+share a line. Strokes on the time axis are control ticks. Dashed uprights are settings (which knob, to what), notes,
+ends of notes and voices, swaps, new engines and refused calls. A comment `# p:0: cutoff` names the destination whose
+target is p:0. Lines `print` and `canon` of the session are passed over. Of a long session each half of a pixel shows
+the least and the greatest value. Needs python3 alone.
+
+Exit status: 0; 1 where the session ended early (ERROR, TOO LARGE), its trace is cut or nothing can be drawn: what
+was played up to there is drawn; 2 for bad usage.
 """
-import math
+import argparse
+import gc
+import itertools
 import os
-import struct
 import subprocess
 import sys
 
-PERIOD = 32
-WIDTH, LEFT, RIGHT, HEAD, GAP, FOOT = 900, 84, 24, 46, 40, 64
-PLOT = WIDTH - LEFT - RIGHT
-LEVEL = 13
-# colour, width and dashes: in black and white the first three differ by width and grey, all by their dashes
-STYLES = [("#8ab6d6", 5.0, ""), ("#c0392b", 2.6, "9 4"), ("#111111", 1.5, ""), ("#2e7d32", 2.2, "2 3"),
-          ("#7b4b94", 2.2, "12 3 2 3"), ("#b8860b", 3.2, "5 5"), ("#00695c", 1.5, "6 2"), ("#5d4037", 1.5, "1 4")]
-ALONE = ("#1b4f72", 2.2, "")
+sys.dont_write_bytecode = True
+sys.path.insert(0, os.path.join(os.path.dirname(os.path.realpath(__file__)), "tools"))
+import pictures
+import traces
+from pictures import GAP, HEAD, LEFT, LEVEL, PLOT, WIDTH, cut, ranges, stroke, text, width_of
+
+SETTINGS = "set_held", "set_voice_held", "set_base", "set_amount", "set_output"
+NOTES = {"note_on": "note", "note_off": "off", "voice_ended": "end"}
+MARKED = {"process", "swap", "set_voice_limit", *SETTINGS, *NOTES}
 
 
-def fail(what):
-    sys.exit("plot: " + what)
-
-
-def number(word):
-    return struct.unpack(">f", bytes.fromhex(word))[0]
-
-
-def finite(x):
-    return math.isfinite(x)
+def fail(what, status=1):
+    print("plot: " + what, file=sys.stderr)
+    sys.exit(status)
 
 
 # ---- what a session printed
 
 
-def answers(text):
-    """The printed lines, in words, by the number of the session line that they answer."""
-    out, at = {}, 0
-    for line in text.split("\n"):
-        if line.startswith("@"):
-            at = int(line[1:].split()[0])
-        elif line.strip():
-            out.setdefault(at, []).append(line.split())
-    return out
-
-
 class Story:
-    """What happened: frames so far, ramps by destination and lane as (frame, from, to, length), ticks, marks as (frame, kind, which), names of destinations."""
+    """What happened: frames so far, rows of values, marks as (frame, kind, which), and what sources and destinations
+    are called. Which of a setting: the knob and the number, as the session has it."""
 
     def __init__(self):
-        self.now, self.voices, self.rate, self.active = 0, 0, None, set()
-        self.ramps, self.ticks, self.marks, self.names = {}, [], [], {}
+        self.now, self.rate, self.config, self.active = 0, None, None, frozenset()
+        self.rows, self.marks, self.rates = pictures.Rows(), [], set()
+        self.targets, self.sources, self.titles = {}, {}, {}
 
     def mark(self, kind, which=None):
         self.marks.append((self.now, kind, which))
 
-    def ramp(self, dest, lane, at, x, y, length):
-        self.ramps.setdefault(dest, {}).setdefault(lane, []).append((at, x, y, length))
+    def name_of(self, dest):
+        """A destination's name, its target or its number."""
+        target = self.targets.get(dest)
+        return self.titles.get(target) or target or str(dest)
 
-    def block(self, start, end, answer):
-        chunks, starts = {}, {}
-        for a in answer:
-            if a[0] == "CHUNK":
-                chunks[a[1]] = self.now + int(a[2]) - start, int(a[3]), int(a[4])
-                if a[5] == "1":
-                    self.ticks.append(chunks[a[1]][0])
-            elif a[0] == "FROM":
-                starts[a[1], a[2]] = a[4:]
-            elif a[0] == "TO":
-                self.chunk(int(a[1]), chunks[a[2]], starts[a[1], a[2]], a[4:])
-        self.now += max(0, end - start)
+    def block(self, start, end, body):
+        # an empty range plays nothing, and prints the last block once more
+        if start < end:
+            self.rows.block(self.now, start, body, self.active)
+            self.rates.add(self.rate)
+            self.now += end - start
 
-    def chunk(self, dest, chunk, froms, tos):
-        at, length, phase = chunk
-        whole = len(tos) == 1
-        for lane, (x, y) in enumerate(zip(froms, tos)):
-            if whole or lane in self.active:
-                x, y = number(x), number(y)
-                step = (y - x) / PERIOD
-                self.ramp(dest, None if whole else lane, at, x + step * phase, x + step * (phase + length), length)
+    def register(self, w, answer):
+        a = [line.split() for line in answer.split("\n")]
+        if w[0] == "newreg":
+            self.targets, self.sources = {}, {}
+        elif w[0] == "standard":
+            self.sources = {int(e[1]): e[2] for e in a if e[:1] == ["ENTRY"]}
+        elif len(a[0]) == 2 and a[0][1].isdigit():
+            (self.targets if w[0] == "dest" else self.sources)[int(a[0][1])] = w[1]
+
+    def setting(self, w):
+        of = int(w[1])
+        if w[0] in ("set_held", "set_voice_held"):
+            knob = self.sources.get(of, "source %d" % of) + (" of voice " + w[2] if w[0] == "set_voice_held" else "")
+        elif w[0] == "set_base":
+            knob = "base of " + self.name_of(of)
+        else:
+            knob = "%s of slot %d" % (w[0][4:], of)
+        self.mark("set", (knob, w[-1]))
+
+    def note(self, w):
+        voice = int(w[1])
+        self.mark(NOTES[w[0]], voice)
+        if w[0] != "note_off":
+            self.active = self.active | {voice} if w[0] == "note_on" else self.active - {voice}
 
     def line(self, w, answer):
-        refused = [a[1] for a in answer if a[0] == "REFUSED"]
-        if refused:
-            if w[0] in ("process", "swap", "note_on"):
-                self.mark("refused", "%s: %s" % (w[0], refused[0]))
+        if answer.startswith(("REFUSED", "ERROR", "TOO LARGE")):
+            if w[0] in MARKED and answer.startswith("REFUSED"):
+                self.mark("refused", "%s: %s" % (w[0], answer.split()[1]))
+        elif w[0] == "process":
+            self.block(int(w[1]), int(w[2]), answer)
+        elif w[0] in SETTINGS:
+            self.setting(w)
+        elif w[0] in NOTES:
+            self.note(w)
+        elif w[0] == "swap":
+            self.mark("swap", w[1])
         elif w[0] == "config":
-            self.rate, self.voices = number(w[1]), int(w[3])
-        elif w[0] == "newreg":
-            self.names = {}
-        elif w[0] == "dest":
-            self.names[int(answer[0][1])] = w[1]
+            self.config = traces.number(w[1])
         elif w[0] == "engine":
             if self.now:
                 self.mark("engine")
-            self.active = set()
-        elif w[0] == "note_on":
-            self.active.add(int(w[1]))
-            self.mark("note", int(w[1]))
-        elif w[0] == "note_off":
-            self.mark("off", int(w[1]))
-        elif w[0] == "voice_ended":
-            self.active.discard(int(w[1]))
-            self.mark("end", int(w[1]))
-        elif w[0] == "swap":
-            self.mark("swap", w[1])
-        elif w[0] == "process":
-            self.block(int(w[1]), int(w[2]), answer)
+            self.rate, self.active = self.config, frozenset()
+        elif w[0] in ("dest", "source", "standard", "newreg"):
+            self.register(w, answer)
 
 
-def story_of(session, text):
-    said, story = answers(text), Story()
-    for n, line in enumerate(session.split("\n"), 1):
-        w = line.split()
-        if w and not w[0].startswith("#"):
-            story.line(w, said.get(n, []))
+def story_of(session, said):
+    """What happened, from the session and what ./trace printed of it, a text or a Trace, up to the last call there."""
+    trace = said if isinstance(said, traces.Trace) else traces.Trace(said)
+    lines, story = session.split("\n"), Story()
+    story.titles = traces.named_targets(lines)
+    for n, answer in zip(trace.ids, trace.bodies):
+        w = lines[n - 1].split() if 0 < n <= len(lines) else []
+        if w:
+            story.line(w, answer)
     return story
 
 
-# ---- words
-
-
-def escaped(s):
-    return s.replace("&", "&amp;").replace("<", "&lt;").replace(">", "&gt;")
-
-
-def text(x, y, s, more=""):
-    return '<text x="%.1f" y="%.1f" %s>%s</text>' % (x, y, more, escaped(s))
-
-
-def stroke(x1, y1, x2, y2, more):
-    return '<line x1="%.1f" y1="%.1f" x2="%.1f" y2="%.1f" %s/>' % (x1, y1, x2, y2, more)
-
-
-def width_of(s, size):
-    """About the width of a text."""
-    return len(s) * size * 0.6
-
-
-def cut(s, most):
-    return s if len(s) <= most else s[:most - 1] + "…"
-
-
-def ranges(numbers):
-    """0, 1, 2, 5 as '0-2, 5'."""
-    out = []
-    for n in sorted(set(numbers)):
-        if out and out[-1][1] == n - 1:
-            out[-1][1] = n
-        else:
-            out.append([n, n])
-    return ", ".join("%d" % a if a == b else "%d, %d" % (a, b) if b == a + 1 else "%d-%d" % (a, b) for a, b in out)
+# ---- the picture
 
 
 def label_of(marks):
-    """The name of all marks at one frame."""
+    """The name of all marks at one frame; of a knob that is set twice the last value."""
     kinds = {}
     for _, kind, which in marks:
         kinds.setdefault(kind, []).append(which)
@@ -168,263 +132,233 @@ def label_of(marks):
     for kind, which in kinds.items():
         if kind == "swap":
             out += ["swap " + cut(w, 24) for w in which]
+        elif kind == "set":
+            out += ["%s = %s" % (cut(knob, 40), traces.decimal(traces.number(x))) for knob, x in dict(which).items()]
         elif kind == "refused":
             out.append("refused " + (which[0] if len(which) == 1 else "(%d calls)" % len(which)))
         else:
-            out.append(kind if which[0] is None else "%s %s" % (kind + "s" * (kind == "note" and len(set(which)) > 1), ranges(which)))
+            many = "s" * (kind == "note" and len(set(which)) > 1)
+            out.append(kind if which[0] is None else "%s %s" % (kind + many, ranges(which)))
     return cut(", ".join(out), 80)
 
 
-# ---- lines
-
-
-def scale(lanes):
-    """Round numbers around all values, and the step between the lines drawn."""
-    xs = [x for rows in lanes.values() for r in rows for x in r[1:3] if finite(x)]
-    if not xs:
-        return 0.0, 1.0, 0.5
-    low, high = min(xs), max(xs)
-    # a line that stands, or nearly so, has room around it
-    room = max(high - low, 1e-4 * max(abs(low), abs(high))) or 1.0
-    if high == low:
-        room = abs(high) or 1.0
-    step = next(m * 10.0 ** e for e in range(-50, 45) for m in (1, 2, 2.5, 5) if room / (m * 10.0 ** e) <= 4)
-    return math.floor(low / step - 0.1) * step, math.ceil(high / step + 0.1) * step, step
-
-
-def word(x, step):
-    """A number on an axis whose lines are `step` apart."""
-    if abs(x) < step / 1e3:
-        return "0"
-    if 1e-4 <= abs(x) < 1e6 and step >= 1e-6:
-        return ("%.7f" % x).rstrip("0").rstrip(".")
-    return "%.6g" % x
-
-
 def grouped(lanes):
-    """Lanes with the same rows, as (lanes, rows), by the lowest lane."""
+    """Lanes with the same ramps, as (lanes, ramps), by the lowest lane."""
     out = {}
     for lane in sorted(lanes, key=lambda v: -1 if v is None else v):
         out.setdefault(tuple(lanes[lane]), []).append(lane)
-    return [(same, rows) for rows, same in out.items()]
+    return [(same, ramps) for ramps, same in out.items()]
 
 
-def points_of(rows):
-    """Unbroken lines, each a list of (frame, value)."""
-    lines = []
-    for at, x, y, length in rows:
-        if not (finite(x) and finite(y)):
-            lines.append([])
-            continue
-        if not lines or not lines[-1] or lines[-1][-1][0] != at:
-            lines.append([(at, x)])
-        elif lines[-1][-1][1] != x:
-            lines[-1].append((at, x))
-        lines[-1].append((at + length, y))
-    return [l for l in lines if l]
-
-
-def thinned(line, x_of):
-    """At most first, least, greatest and last of the points that fall on one half of a pixel."""
-    out, column, held = [], None, []
-
-    def emptied():
-        keep = {0, len(held) - 1, min(range(len(held)), key=lambda i: held[i][1]), max(range(len(held)), key=lambda i: held[i][1])} if held else ()
-        out.extend(held[i] for i in sorted(keep))
-
-    for p in line:
-        c = int(x_of(p[0]) * 2)
-        if c != column:
-            emptied()
-            column, held = c, []
-        held.append(p)
-    emptied()
-    return out
-
-
-def straightened(line):
-    """Without points that lie on the way between their neighbours."""
-    out = []
-    for p in line:
-        while len(out) > 1:
-            (a, x), (b, y) = out[-2], out[-1]
-            if a < b < p[0] and abs(x + (p[1] - x) * (b - a) / (p[0] - a) - y) <= 1e-9 * max(abs(x), abs(y), abs(p[1])):
-                out.pop()
-            else:
-                break
-        out.append(p)
-    return out
-
-
-def path(rows, x_of, y_of, style):
-    ink, width, dash = style
-    d = []
-    for line in points_of(rows):
-        line = straightened(thinned(line, x_of))
-        d.append("M" + "L".join("%.1f %.1f" % (x_of(f), y_of(v)) for f, v in line))
-    return '<path d="%s" fill="none" stroke="%s" stroke-width="%.1f" stroke-linejoin="round"%s/>' % (
-        "".join(d), ink, width, ' stroke-dasharray="%s"' % dash if dash else "")
-
-
-# ---- the picture
-
-
-def keys(groups, styles):
-    """The names of a panel's lines with a sample of each, in rows from the right: (row, x, name, style)."""
-    out, row, x = [], 0, float(LEFT + 330)
-    for (same, _), style in zip(groups, styles):
-        name = cut(("voice %s" if len(same) == 1 else "voices %s") % ranges(same), 40)
-        wide = 34 + width_of(name, 12) + 12
-        if x + wide > WIDTH - RIGHT and x > LEFT + 330:
-            row, x = row + 1, float(LEFT + 330)
-        out.append((row, x, name, style))
-        x += wide
-    return out
-
-
-def panel(top, height, name, lanes, x_of):
-    """A destination's panel, and how much higher than `height` it is with the names of its lines."""
+def lines_of(lanes):
+    """The lines of a panel: (name or None, ramps, style)."""
     groups = grouped(lanes)
-    voices = groups[0][0] != [None]
-    styles = [STYLES[i % len(STYLES)] for i in range(len(groups))] if len(groups) > 1 else [ALONE]
-    named = keys(groups, styles) if voices else []
-    more = max([k[0] for k in named], default=0) * LEVEL
-    out = ['<rect x="%d" y="%.1f" width="%d" height="%d" fill="white"/>' % (LEFT - 2, top - 21, PLOT + 4, 20 + more), text(LEFT, top - 8, name, 'font-weight="bold"')]
-    for row, x, key, style in named:
-        y = top - 8 + row * LEVEL
-        out += [stroke(x, y - 4, x + 28, y - 4, 'stroke="%s" stroke-width="%.1f"%s' % (
-            style[0], style[1], ' stroke-dasharray="%s"' % style[2] if style[2] else "")), text(x + 34, y, key)]
-    top += more
-    low, high, step = scale(lanes)
-    y_of = lambda v: top + height - (v - low) / (high - low) * height
-    for k in range(round((high - low) / step) + 1):
-        v = low + step * k
-        out.append(stroke(LEFT, y_of(v), WIDTH - RIGHT, y_of(v), 'stroke="#d8d8d8"'))
-        out.append(text(LEFT - 7, y_of(v) + 4, word(v, step), 'text-anchor="end"'))
-    out.append('<rect x="%d" y="%.1f" width="%d" height="%.1f" fill="none" stroke="#777"/>' % (LEFT, top, PLOT, height))
-    out += [path(rows, x_of, y_of, style) for (_, rows), style in zip(groups, styles)]
-    if any(not finite(x) for rows in lanes.values() for r in rows for x in r[1:3]):
-        out.append(text(WIDTH - RIGHT - 6, top + height - 6, "gaps: a value that is no finite number", 'text-anchor="end" font-style="italic"'))
-    return out, more
+    styles = itertools.cycle(pictures.STYLES) if len(groups) > 1 else [pictures.ALONE]
+    called = lambda same: cut("voice%s %s" % ("s" * (len(same) > 1), ranges(same)), 40)
+    return [(None if same == [None] else called(same), ramps, style) for (same, ramps), style in zip(groups, styles)]
 
 
-def placed(marks, x_of):
-    """The marks by frame with their names on levels, so that no two names meet: (frame, name, level, x); without a level where there is no room."""
+def placed(marks, view):
+    """The marks by frame with their names on levels, so that no two names meet: (frame, name, level, x); no level
+    where there is no room."""
     by_frame, ends, out = {}, [], []
     for m in marks:
         by_frame.setdefault(m[0], []).append(m)
     for f in sorted(by_frame):
+        # where even one letter meets a name on every level
+        if len(ends) == 6 and min(ends) > view.x(f) + 3:
+            out.append((f, "", None, view.x(f)))
+            continue
         name = label_of(by_frame[f])
         wide = width_of(name, 11)
-        x = min(x_of(f) + 3, WIDTH - 4 - wide)
+        x = min(view.x(f) + 3, WIDTH - 4 - wide)
         level = next((i for i, e in enumerate(ends) if e <= x), len(ends))
         if level < 6:
             ends[level:level + 1] = [x + wide + 6]
-            out.append((f, name, level, x))
-        else:
-            out.append((f, name, None, x))
+        out.append((f, name, level if level < 6 else None, x))
     return out
 
 
-def axis(frames, ticks, x_of, y, rate, unnamed):
-    step = next(2 ** e for e in range(70) if frames / 2 ** e <= 12)
-    out = []
-    for f in range(0, frames + 1, step):
-        out.append(stroke(x_of(f), y, x_of(f), y + 4, 'stroke="#777"'))
-        # the last frame's own number stands at the end
-        if f == frames or x_of(frames) - x_of(f) > width_of(format(f, ","), 12) / 2 + width_of(format(frames, ","), 12) + 8:
-            out.append(text(x_of(f), y + 22, format(f, ","), 'text-anchor="middle"'))
-    if frames % step:
-        out.append(text(WIDTH - RIGHT, y + 22, format(frames, ","), 'text-anchor="end"'))
+def uprights(marks, view, first, bottom):
+    """The marks. Where there are many, those without a name are short, at most one a pixel."""
+    many, seen, out = len(marks) > 60, set(), []
+    style = 'stroke="%s" stroke-width="0.8" stroke-dasharray="4 3"' % ("#c4c4c4" if many else "#666")
+    for f, name, level, x in marks:
+        at = view.x(f)
+        if level is None and many:
+            if round(at) not in seen:
+                out.append(stroke(at, first, at, first + 5, 'stroke="#999" stroke-width="0.8"'))
+            seen.add(round(at))
+            continue
+        y = HEAD + (level or 0) * LEVEL
+        out.append(stroke(at, y if level is not None else first - 4, at, bottom, style))
+        if level is not None:
+            out.append('<rect x="%.1f" y="%.1f" width="%.1f" height="%d" fill="white"/>' %
+                       (x - 1, y - 10, width_of(name, 11), LEVEL - 1))
+            out.append(text(x, y, name, 'font-size="11" fill="#222"'))
+    return out
+
+
+def below(story, view, y, unnamed, left_out):
+    """The axis, its ticks, and what is said below it."""
+    rate = next(iter(story.rates)) if len(story.rates) == 1 else None
+    out = pictures.axis(view, y, rate)
+    ticks = [f for f in story.rows.ticks if view.first <= f < view.last]
     close = len(ticks) * 3 > PLOT
-    for f in [] if close else ticks:
-        out.append(stroke(x_of(f), y, x_of(f), y + 8, 'stroke="#000" stroke-width="1.6"'))
-    said = "frames" + (", %s a second" % format(round(rate), ",") if rate and finite(rate) else "")
-    said += "; %s control ticks, too close to draw" % format(len(ticks), ",") if close else "; a black stroke on the axis is a control tick"
-    if unnamed:
-        said += "; %d uprights without room for a name" % unnamed
-    return out + [text(LEFT + PLOT / 2, y + 46, said, 'text-anchor="middle"')]
+    out += [] if close else [stroke(view.x(f), y, view.x(f), y + 8, 'stroke="#000" stroke-width="1.6"') for f in ticks]
+    said = ["frames, %s a second" % format(round(rate), ",") if rate else "frames"]
+    said += ["rates differ: no seconds"] * (len(story.rates) > 1)
+    said += ["%s control ticks, too close to draw" % format(len(ticks), ",") if close
+             else "a black stroke on the axis is a control tick"]
+    said += ["%s marks without room for a name" % format(unnamed, ",")] * bool(unnamed)
+    y += 58 if rate else 46
+    for line in ["; ".join(said)] + [left_out] * bool(left_out):
+        out.append(text(LEFT + PLOT / 2, y, line, 'text-anchor="middle"'))
+        y += 18
+    return out, y
 
 
-def picture(title, story):
-    frames = story.now
-    x_of = lambda f: LEFT + f / max(frames, 1) * PLOT
-    height = 150 if len(story.ramps) <= 6 else 100
-    marks = placed(story.marks, x_of)
+def heading_of(story, dest):
+    """A destination with its number, its target and its name, as far as it has them."""
+    target = story.targets.get(dest)
+    if target in story.titles:
+        return "%s (destination %d, %s)" % (cut(story.titles[target], 40), dest, target)
+    return "destination %d" % dest + (" (%s)" % target if target else "")
+
+
+def panels_of(story, view, dests=(), audio=None):
+    """The panels: (name, lines)."""
+    every = not dests and audio is None
+    asked = [(d, rows, "") for d, rows in sorted(story.rows.control.items()) if every or d in dests]
+    asked += [(audio, story.rows.audio[audio], ", audio rate")] if audio in story.rows.audio else []
+    lanes = [(heading_of(story, d) + more, pictures.lanes_of(rows, view)) for d, rows, more in asked]
+    return [(name, lines_of(found)) for name, found in lanes if found]
+
+
+def left_out(story, audio):
+    """What is said of audio destinations that are not drawn."""
+    rest = sorted(set(story.rows.audio) - {audio})
+    if not rest:
+        return ""
+    said = "destinations %s are" if len(rest) > 1 else "destination %s is"
+    return cut("audio %s left out (--audio %d draws %s)" % (
+        said % cut(ranges(rest), 60), rest[0], "one" if len(rest) > 1 else "it"), 130)
+
+
+def picture(title, story, view=None, panels=None, audio=None):
+    """The SVG; without a view all frames, without panels all control destinations."""
+    view = view or pictures.View(0, story.now)
+    panels = panels_of(story, view) if panels is None else panels
+    height = 150 if len(panels) <= 6 else 100
+    marks = placed([m for m in story.marks if view.first <= m[0] <= view.last], view)
     levels = max([m[2] + 1 for m in marks if m[2] is not None], default=0)
     first = top = HEAD + levels * LEVEL + 22
     out, bottom = [], top
-    for d in sorted(story.ramps):
-        name = "destination %d" % d + (" (%s)" % story.names[d] if d in story.names else "")
-        drawn, more = panel(top, height, name, story.ramps[d], x_of)
+    for name, lines in panels:
+        drawn, more = pictures.panel(top, height, name, lines, view)
         out += drawn
         bottom = top + more + height
         top = bottom + GAP
-    back, ink = [], "#666" if len(marks) <= 60 else "#c4c4c4"
-    for f, name, level, x in marks:
-        y = HEAD + (level or 0) * LEVEL
-        back.append(stroke(x_of(f), y if level is not None else first - 4, x_of(f), bottom, 'stroke="%s" stroke-width="0.8" stroke-dasharray="4 3"' % ink))
-        if level is not None:
-            back.append('<rect x="%.1f" y="%.1f" width="%.1f" height="%d" fill="white"/>' % (x - 1, y - 10, width_of(name, 11), LEVEL - 1))
-            back.append(text(x, y, name, 'font-size="11" fill="#222"'))
-    out += axis(frames, story.ticks, x_of, bottom, story.rate, sum(m[2] is None for m in marks))
-    total = math.ceil(bottom + FOOT)
-    return "\n".join(['<svg xmlns="http://www.w3.org/2000/svg" viewBox="0 0 %d %d" width="%d" height="%d" font-family="DejaVu Sans, Verdana, sans-serif" font-size="12">' % (
-        WIDTH, total, WIDTH, total), '<rect width="100%" height="100%" fill="white"/>', text(LEFT, 22, title, 'font-size="14"')] + back + out + ["</svg>"]) + "\n"
+    foot, end = below(story, view, bottom, sum(m[2] is None for m in marks), left_out(story, audio))
+    return pictures.drawing(title, uprights(marks, view, first, bottom) + out + foot, end)
 
 
 def title_of(path, session):
     """The session's name with its first comment."""
-    first = next((l.strip("# \r") for l in session.split("\n") if l.startswith("#") and l.strip("# \r")), "")
+    comments = (l.strip("# \r") for l in session.split("\n") if l.startswith("#") and not traces.NAMING.match(l))
+    first = next((l for l in comments if l), "")
     return cut(os.path.basename(path) + (": " + first if first else ""), 100)
 
 
 # ---- files
 
 
-def session_of(path):
-    try:
-        with open(path, encoding="utf-8") as f:
-            return f.read()
-    except OSError as e:
-        fail("%s: %s" % (path, e.strerror))
-    except UnicodeDecodeError:
-        fail("%s: not a text" % path)
-
-
 def printed(path, session):
-    """What ./trace prints of the session in full, whatever its own lines say about printing."""
+    """What ./trace prints of the session in full, whatever its own lines say about printing, and its exit status."""
     full = "\n".join("#" if l.split()[:1] in (["print"], ["canon"]) else l for l in session.split("\n"))
-    trace = os.path.join(os.path.dirname(os.path.abspath(__file__)), "trace")
-    p = subprocess.run([trace], input=full.encode(), stdout=subprocess.PIPE)
-    said = p.stdout.decode("ascii", "replace")
-    wrong = [l for l in said.split("\n") if l.startswith(("ERROR", "TOO LARGE"))]
-    if p.returncode:
-        fail("%s: ./trace failed" % path)
+    trace = os.path.join(os.path.dirname(os.path.realpath(__file__)), "trace")
+    try:
+        p = subprocess.run([trace], input=full.encode(), stdout=subprocess.PIPE)
+    except OSError as e:
+        fail("%s: %s" % (trace, e.strerror))
+    if not p.stdout:
+        fail("%s: ./trace printed nothing, exit status %d" % (path, p.returncode))
+    return traces.Trace(p.stdout.decode("ascii", "replace")), p.returncode
+
+
+def wrong_with(trace, status):
+    """What is wrong with a trace, in words, or None."""
+    if trace.ended():
+        return trace.ended()
+    if trace.cut:
+        return "the trace is cut: %s (./trace: exit status %d)" % (trace.cut, status)
+    return "./trace: exit status %d" % status if status else None
+
+
+def found_dest(story, word, rows, kind):
+    """The destination of that number, target or name."""
+    found = [d for d in rows if word in (str(d), story.targets.get(d), story.name_of(d))]
+    if not found:
+        have = ", ".join(str(d) for d in sorted(rows)) or "none"
+        fail("no %s destination %s has values; these have: %s" % (kind, word, cut(have, 200)), 2)
+    return found[0]
+
+
+def wanted(argv):
+    p = argparse.ArgumentParser(prog="plot", description=__doc__, formatter_class=argparse.RawDescriptionHelpFormatter)
+    p.add_argument("session", metavar="SESSION")
+    p.add_argument("picture", metavar="PICTURE.svg", nargs="?",
+                   help="where to write (SESSION with .svg in place of its ending)")
+    p.add_argument("--from", dest="first", metavar="F", type=int, default=0, help="the first frame in the picture (0)")
+    p.add_argument("--to", dest="last", metavar="F", type=int, help="the frame where the picture ends (the last)")
+    p.add_argument("--dest", metavar="D", action="append", default=[],
+                   help="this destination alone: its number, target or name; may be given again")
+    p.add_argument("--audio", metavar="D",
+                   help="draws this audio destination, each frame's value; without --dest nothing else")
+    return p.parse_intermixed_args(argv)
+
+
+def drawn(args, session, trace):
+    """The picture of what was printed."""
+    story = story_of(session, trace)
+    last = story.now if args.last is None else args.last
+    dests = [found_dest(story, d, story.rows.control, "control") for d in args.dest]
+    audio = None if args.audio is None else found_dest(story, args.audio, story.rows.audio, "audio")
+    if story.now and not 0 <= args.first < last <= story.now:
+        fail("--from %d --to %d: the session has the frames 0 to %d" % (args.first, last, story.now), 2)
+    view = pictures.View(args.first, last)
+    panels = panels_of(story, view, dests, audio)
+    if not panels:
+        fail("%s: nothing to draw: no block has control values there (a swap to a program with a control destination, "
+             "then `process`; of a destination per voice, a voice that sounds)%s" % (
+                 args.session, "; " + left_out(story, None) if story.rows.audio else ""))
+    return picture(title_of(args.session, session), story, view, panels, audio)
+
+
+def main(argv):
+    args = wanted(argv)
+    out = args.picture or os.path.splitext(args.session)[0] + ".svg"
+    if os.path.abspath(out) == os.path.abspath(args.session):
+        fail("%s: the picture would be written over the session" % args.session, 2)
+    try:
+        session = traces.read_text(args.session)
+    except traces.Bad as e:
+        fail(str(e), 2)
+    trace, status = printed(args.session, session)
+    wrong = wrong_with(trace, status)
     if wrong:
-        fail("%s: %s" % (path, wrong[0]))
-    return said
-
-
-def main():
-    if len(sys.argv) not in (2, 3) or sys.argv[1].startswith("-"):
-        sys.exit(__doc__)
-    path = sys.argv[1]
-    out = sys.argv[2] if len(sys.argv) == 3 else os.path.splitext(path)[0] + ".svg"
-    if os.path.abspath(out) == os.path.abspath(path):
-        fail("%s: the picture would be written over the session" % path)
-    session = session_of(path)
-    story = story_of(session, printed(path, session))
-    if not story.ramps:
-        fail("%s: nothing to draw: no block of it has control values (a swap to a program with a control destination, then `process`; "
-             "of a destination per voice, a voice that sounds)" % path)
+        print("plot: %s: %s; drawn is what was played up to there" % (args.session, wrong), file=sys.stderr)
+    svg = drawn(args, session, trace)
     try:
         with open(out, "w", encoding="utf-8") as f:
-            f.write(picture(title_of(path, session), story))
+            f.write(svg)
     except OSError as e:
         fail("%s: %s" % (out, e.strerror))
     print(out)
+    return 1 if wrong else 0
 
 
 if __name__ == "__main__":
-    main()
+    # a long trace is hundreds of thousands of rows without a cycle
+    gc.disable()
+    sys.exit(main(sys.argv[1:]))
