@@ -312,7 +312,8 @@ def axis(view, y, rate):
         out.append(stroke(view.x(f), y, view.x(f), y + 4, 'stroke="#777"'))
         # the last frame's own number stands at the end
         if f == view.last or view.x(view.last) - view.x(f) > wide(f) / 2 + wide(view.last) + 8:
-            label(f, view.x(f), "middle")
+            outside = view.x(f) + wide(f) / 2 > WIDTH - 4
+            label(f, WIDTH - 4 if outside else view.x(f), "end" if outside else "middle")
     if view.last % step:
         label(view.last, WIDTH - RIGHT, "end")
     return out
