@@ -46,8 +46,9 @@ fn after_rows(start: u64, rows: &[f32], width: usize, voices: usize) -> u64 {
 // the hash after a destination: it has rows at one of the two rates
 fn after_dest(h: u64, e: Engine, d: usize, voices: usize, values: &[f32], audio: &[f32]) -> u64 {
     let width = e.stride();
-    let a = after_rows(h, e.audio_part(audio, d), width, voices);
-    after_rows(a, e.to_part(values, d), width, voices)
+    let mut code = 0u8;
+    let a = after_rows(h, e.audio_part(audio, d, &mut code), width, voices);
+    after_rows(a, e.to_part(values, d, &mut code), width, voices)
 }
 
 // the hash of every destination

@@ -3,7 +3,7 @@ ghost use mathlib.Core.Path.{_≡_};
 ghost use mathlib.Core.List.{[]};
 ghost use Rattle.model.specs.World.{worldOf};
 ghost use Rattle.model.specs.Settings.{refusedState, newEngine, unboundSignals, bindSignal, setHeld, setVoiceHeld, setBase, setAmount, setOutput, setVoiceLimit, swapProgram};
-ghost use Rattle.model.specs.Outputs.{engineStride, engineProgram, outputOf, audioPart, audioFrame, fromPart, toPart, chunkCount, chunkAt, audioAt, controlValue, rampOf, latestOf, latestAll};
+ghost use Rattle.model.specs.Outputs.{engineStride, engineProgram, outputOf, audioPart, framePart, fromPart, toPart, chunkCount, chunkAt, audioAt, controlValue, rampOf, latestOf, latestAll};
 ghost use mathlib.Core.Bool.{not, _||_};
 ghost use Rattle.model.specs.NoteCalls.{newNote, noteFinite, noteOn, noteOff, voiceEnded, isActive};
 ghost use Rattle.noting.specs.Noting.{Inside, soundOn, heldOn};
@@ -592,28 +592,28 @@ impl Engine {
         reading::output(state, values, audio, dest)
     }
 
-    // The audio rows of a destination.
-    pub fn audio_part(self, audio: &[f32], dest: usize) -> &[f32]
-        ensures { λ r. ⌜ now r ≡ audioPart (self .state) (now (audio .entry)) dest ⌝ }
+    // The audio rows of a destination; their number goes into `code`.
+    pub fn audio_part<'a>(self, audio: &'a [f32], dest: usize, code: &mut u8) -> &'a [f32]
+        ensures { λ r. ⌜ (now r ≡ audioPart (self .state) (now (audio .entry)) dest .numbers) × (now (code .exit) ≡ audioPart (self .state) (now (audio .entry)) dest .code) ⌝ }
     {
         let state = self.state;
-        reading::audio_part(state, audio, dest)
+        reading::audio_part(state, audio, dest, code)
     }
 
     // The "from" rows of the last block's chunks.
-    pub fn from_part(self, values: &[f32], dest: usize) -> &[f32]
-        ensures { λ r. ⌜ now r ≡ fromPart (self .state) (now (values .entry)) dest ⌝ }
+    pub fn from_part<'a>(self, values: &'a [f32], dest: usize, code: &mut u8) -> &'a [f32]
+        ensures { λ r. ⌜ (now r ≡ fromPart (self .state) (now (values .entry)) dest .numbers) × (now (code .exit) ≡ fromPart (self .state) (now (values .entry)) dest .code) ⌝ }
     {
         let state = self.state;
-        reading::from_part(state, values, dest)
+        reading::from_part(state, values, dest, code)
     }
 
     // Their "to" rows.
-    pub fn to_part(self, values: &[f32], dest: usize) -> &[f32]
-        ensures { λ r. ⌜ now r ≡ toPart (self .state) (now (values .entry)) dest ⌝ }
+    pub fn to_part<'a>(self, values: &'a [f32], dest: usize, code: &mut u8) -> &'a [f32]
+        ensures { λ r. ⌜ (now r ≡ toPart (self .state) (now (values .entry)) dest .numbers) × (now (code .exit) ≡ toPart (self .state) (now (values .entry)) dest .code) ⌝ }
     {
         let state = self.state;
-        reading::to_part(state, values, dest)
+        reading::to_part(state, values, dest, code)
     }
 
     // How many chunks the last nonempty block made.
@@ -641,11 +641,11 @@ impl Engine {
     }
 
     // The row at a frame, of an audio plan.
-    pub fn frame(self, audio: &[f32], dest: usize, frame: usize) -> &[f32]
-        ensures { λ r. ⌜ now r ≡ audioFrame (self .state) (now (audio .entry)) dest frame ⌝ }
+    pub fn frame<'a>(self, audio: &'a [f32], dest: usize, frame: usize, code: &mut u8) -> &'a [f32]
+        ensures { λ r. ⌜ (now r ≡ framePart (self .state) (now (audio .entry)) dest frame .numbers) × (now (code .exit) ≡ framePart (self .state) (now (audio .entry)) dest frame .code) ⌝ }
     {
         let state = self.state;
-        reading::audio_frame(state, audio, dest, frame)
+        reading::audio_frame(state, audio, dest, frame, code)
     }
 
     // The number after a chunk, of a control plan.

@@ -1,4 +1,5 @@
 -- What is read of an engine: the shape of an output, its rows, chunks and single numbers (engine.rs 105-190, 382-390, 613-690; document 01, Chunk and value). Definitions only.
+use mathlib.Core.Path.{_≡_, refl}
 use mathlib.Core.Bool.{Bool, true, false, not, cond, _&&_, _||_}
 use mathlib.Core.List.{List, [], _∷_, _++_, map}
 use Prim.Native.Nat.{ℕ, zero, suc, _+_, _-_, _*_, min}
@@ -89,21 +90,47 @@ unfoldable pub outputOf : State → List Float → List Float → ℕ → Output
 unfolding chunkTotal
 outputOf st values audio d = cond (valuesShort st values || audioShort st audio) (O.Refused 14) (shapeOf st d)
 
--- a part that starts at a and has n numbers; the empty one where the test fails
-abbrev pub partIf : Bool → List Float → ℕ → ℕ → List Float
-partIf b m a n = cond b (part m a (a + n)) []
+-- a part of a lent memory, with the call's number
+pub record Parted : Type 0 where
+  pub code : ℕ
+  pub numbers : List Float
+
+-- by the rows that judge the call: the n numbers from a on; none where the call is refused, or where the test fails
+abbrev pub partBy : List Row → Bool → List Float → ℕ → ℕ → Parted
+partBy rows b m a n =
+    record { code = judged rows; numbers = cond (eqb (judged rows) 0 && b) (part m a (a + n)) [] }
+
+-- a short memory: 14, and no numbers; no such plan: 0, and no numbers; else the numbers
+short-part : (m : List Float) (a n : ℕ) → partBy (14 when true ∷ []) true m a n ≡ record { code = 14; numbers = [] }
+unfolding judged
+short-part m a n = refl
+
+no-part : (m : List Float) (a n : ℕ) → partBy (14 when false ∷ []) false m a n ≡ record { code = 0; numbers = [] }
+unfolding judged
+no-part m a n = refl
+
+some-part : (x y z : Float) → partBy (14 when false ∷ []) true (x ∷ y ∷ z ∷ []) 1 2 ≡ record { code = 0; numbers = y ∷ z ∷ [] }
+unfolding judged part
+some-part x y z = refl
+
+abbrev pub audioPartRows : State → List Float → List Row
+audioPartRows st audio = 14 when audioShort st audio ∷ []
+
+abbrev pub valuesPartRows : State → List Float → List Row
+valuesPartRows st values = 14 when valuesShort st values ∷ []
 
 abbrev pub audioStart : State → ℕ → ℕ → ℕ
 audioStart st d k = audioRow (strideOf st) (frameCount st) (planPlace st d) (widthOf st d) k
 
-unfoldable pub audioPart : State → List Float → ℕ → List Float
-unfolding part
-audioPart st audio d = partIf (not (audioShort st audio) && isAudioPlan st d) audio (audioStart st d 0) (frameCount st * widthOf st d)
+unfoldable pub audioPart : State → List Float → ℕ → Parted
+unfolding part judged
+audioPart st audio d =
+    partBy (audioPartRows st audio) (isAudioPlan st d) audio (audioStart st d 0) (frameCount st * widthOf st d)
 
-unfoldable pub audioFrame : State → List Float → ℕ → ℕ → List Float
-unfolding part
-audioFrame st audio d k =
-    partIf (not (audioShort st audio) && (isAudioPlan st d && ltb k (frameCount st))) audio (audioStart st d k) (widthOf st d)
+unfoldable pub framePart : State → List Float → ℕ → ℕ → Parted
+unfolding part judged
+framePart st audio d k =
+    partBy (audioPartRows st audio) (isAudioPlan st d && ltb k (frameCount st)) audio (audioStart st d k) (widthOf st d)
 
 abbrev pub fromStart : State → ℕ → ℕ → ℕ
 fromStart st d c = chunkFrom (strideOf st) (chunksMost st) (planPlace st d) (widthOf st d) c
@@ -111,15 +138,17 @@ fromStart st d c = chunkFrom (strideOf st) (chunksMost st) (planPlace st d) (wid
 abbrev pub toStart : State → ℕ → ℕ → ℕ
 toStart st d c = chunkTo (strideOf st) (chunksMost st) (planPlace st d) (widthOf st d) c
 
-unfoldable pub fromPart : State → List Float → ℕ → List Float
-unfolding part chunkTotal
+unfoldable pub fromPart : State → List Float → ℕ → Parted
+unfolding part judged chunkTotal
 fromPart st values d =
-    partIf (not (valuesShort st values) && isControlPlan st d) values (fromStart st d 0) (chunkTotal (st .block) * widthOf st d)
+    let n = chunkTotal (st .block) * widthOf st d in
+    partBy (valuesPartRows st values) (isControlPlan st d) values (fromStart st d 0) n
 
-unfoldable pub toPart : State → List Float → ℕ → List Float
-unfolding part chunkTotal
+unfoldable pub toPart : State → List Float → ℕ → Parted
+unfolding part judged chunkTotal
 toPart st values d =
-    partIf (not (valuesShort st values) && isControlPlan st d) values (toStart st d 0) (chunkTotal (st .block) * widthOf st d)
+    let n = chunkTotal (st .block) * widthOf st d in
+    partBy (valuesPartRows st values) (isControlPlan st d) values (toStart st d 0) n
 
 -- ---- single numbers
 

@@ -111,7 +111,7 @@ seenOf r d =
     let st = r .world .state in
     cond (isAudioPlan st d)
     (part (r .world .audio) (audioStart st d (st .block .start)) (audioStart st d (st .block .end)))
-    (fromPart st (r .world .values) d ++ toPart st (r .world .values) d)
+    (fromPart st (r .world .values) d .numbers ++ toPart st (r .world .values) d .numbers)
 
 abbrev seenOfAll : Runner → List ℕ → List Float
 seenOfAll r [] = []

@@ -14,7 +14,7 @@ ghost use Rattle.list.specs.Part.{part, onPart};
 ghost use Rattle.filled.specs.Filled.{noPlan};
 ghost use Rattle.model.specs.Layout.{planWidth, planSize, audioSize};
 ghost use Rattle.model.specs.Process.{valuesOf, audioNeedOf};
-ghost use Rattle.model.specs.Outputs.{planOf, outputOf, audioPart, audioFrame, fromPart, toPart, chunkCount, chunkAt, audioAt, controlValue, latestOf, rampAt, rampLength, rampOf, latestRow, latestRows, latestAll};
+ghost use Rattle.model.specs.Outputs.{planOf, outputOf, audioPart, framePart, fromPart, toPart, chunkCount, chunkAt, audioAt, controlValue, latestOf, rampAt, rampLength, rampOf, latestRow, latestRows, latestAll};
 ghost use Rattle.reading.specs.Spot.{spotOf, shapeBy, Bounded};
 ghost use Rattle.reading.specs.Ramp.{rampNumber};
 ghost use Rattle.reading.specs.Latest.{lastOf, laneNumber, latestBy};
@@ -414,6 +414,9 @@ pub fn latest(state: State, values: &[f32], audio: &[f32], dest: usize, voice: u
 
 // ---- parts
 
+// the row of a short memory
+const SHORT: u8 = 14;
+
 // nothing of a memory
 fn none(mem: &[f32]) -> &[f32]
     ensures { λ r. ⌜ now r ≡ [] ⌝ }
@@ -421,13 +424,15 @@ fn none(mem: &[f32]) -> &[f32]
     &mem[0..0]
 }
 
-// the audio rows of dest
-pub fn audio_part(state: State, audio: &[f32], dest: usize) -> &[f32]
-    ensures { λ r. ⌜ now r ≡ audioPart state (now (audio .entry)) dest ⌝ }
+// the audio rows of dest, and the number of the row by which they are refused
+pub fn audio_part<'a>(state: State, audio: &'a [f32], dest: usize, code: &mut u8) -> &'a [f32]
+    ensures { λ r. ⌜ (now r ≡ audioPart state (now (audio .entry)) dest .numbers) × (now (code .exit) ≡ audioPart state (now (audio .entry)) dest .code) ⌝ }
 {
     if audio_short(state, audio.len()) {
+        *code = SHORT;
         return none(audio);
     }
+    *code = 0;
     let spot = spot_of(state, dest);
     if !spot.audio {
         return none(audio);
@@ -445,12 +450,14 @@ fn row_start(a: usize, width: usize, k: usize) -> usize
 }
 
 // the audio row of dest at a frame
-pub fn audio_frame(state: State, audio: &[f32], dest: usize, frame: usize) -> &[f32]
-    ensures { λ r. ⌜ now r ≡ audioFrame state (now (audio .entry)) dest frame ⌝ }
+pub fn audio_frame<'a>(state: State, audio: &'a [f32], dest: usize, frame: usize, code: &mut u8) -> &'a [f32]
+    ensures { λ r. ⌜ (now r ≡ framePart state (now (audio .entry)) dest frame .numbers) × (now (code .exit) ≡ framePart state (now (audio .entry)) dest frame .code) ⌝ }
 {
     if audio_short(state, audio.len()) {
+        *code = SHORT;
         return none(audio);
     }
+    *code = 0;
     let spot = spot_of(state, dest);
     if !spot.audio {
         return none(audio);
@@ -464,12 +471,14 @@ pub fn audio_frame(state: State, audio: &[f32], dest: usize, frame: usize) -> &[
 }
 
 // the "from" rows of the chunks of dest
-pub fn from_part(state: State, values: &[f32], dest: usize) -> &[f32]
-    ensures { λ r. ⌜ now r ≡ fromPart state (now (values .entry)) dest ⌝ }
+pub fn from_part<'a>(state: State, values: &'a [f32], dest: usize, code: &mut u8) -> &'a [f32]
+    ensures { λ r. ⌜ (now r ≡ fromPart state (now (values .entry)) dest .numbers) × (now (code .exit) ≡ fromPart state (now (values .entry)) dest .code) ⌝ }
 {
     if values_short(state, values.len()) {
+        *code = SHORT;
         return none(values);
     }
+    *code = 0;
     let spot = spot_of(state, dest);
     if !spot.control {
         return none(values);
@@ -478,12 +487,14 @@ pub fn from_part(state: State, values: &[f32], dest: usize) -> &[f32]
 }
 
 // their "to" rows
-pub fn to_part(state: State, values: &[f32], dest: usize) -> &[f32]
-    ensures { λ r. ⌜ now r ≡ toPart state (now (values .entry)) dest ⌝ }
+pub fn to_part<'a>(state: State, values: &'a [f32], dest: usize, code: &mut u8) -> &'a [f32]
+    ensures { λ r. ⌜ (now r ≡ toPart state (now (values .entry)) dest .numbers) × (now (code .exit) ≡ toPart state (now (values .entry)) dest .code) ⌝ }
 {
     if values_short(state, values.len()) {
+        *code = SHORT;
         return none(values);
     }
+    *code = 0;
     let spot = spot_of(state, dest);
     if !spot.control {
         return none(values);

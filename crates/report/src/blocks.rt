@@ -212,8 +212,15 @@ fn control(
     out: &mut [u8],
     at: usize,
 ) -> usize {
-    let from = engine.from_part(values, s.dest);
-    let to = engine.to_part(values, s.dest);
+    let mut code = 0u8;
+    let from = engine.from_part(values, s.dest, &mut code);
+    if code != 0 {
+        return at;
+    }
+    let to = engine.to_part(values, s.dest, &mut code);
+    if code != 0 {
+        return at;
+    }
     match print {
         Print::Full => control_full(from, to, s, chunks, out, at),
         Print::Hash => control_hash(from, to, s, chunks, out, at),
@@ -314,6 +321,16 @@ fn control_after(
     control(engine, values, s, chunks, print, out, at)
 }
 
+// the audio rows of a destination
+fn sounded(engine: Engine, mem: &[f32], s: Shape, span: Span, out: &mut [u8], at: usize) -> usize {
+    let mut code = 0u8;
+    let rows = engine.audio_part(mem, s.dest, &mut code);
+    if code != 0 {
+        return at;
+    }
+    audio(rows, s, span, out, at)
+}
+
 // a destination's output; `first` says that the chunks stand before it
 fn one(
     engine: Engine,
@@ -332,7 +349,7 @@ fn one(
         Output::Unmodulated => at,
         Output::Audio { width } => {
             let s = Shape { dest, width, canon };
-            audio(engine.audio_part(mem, dest), s, span, out, at)
+            sounded(engine, mem, s, span, out, at)
         }
         Output::Control { width, chunks } => {
             let s = Shape { dest, width, canon };
@@ -464,6 +481,50 @@ fn code_of(output: Output) -> u8 {
     }
 }
 
+// no row's number: calls that owe one number gave two
+const PARTED: u8 = 99;
+
+// the greater number
+fn most(a: u8, b: u8) -> u8 {
+    if a < b {
+        return b;
+    }
+    a
+}
+
+// a number that two calls owe
+fn agreed(a: u8, b: u8) -> u8 {
+    if a == b {
+        return a;
+    }
+    PARTED
+}
+
+// the number by which whole rows are refused
+fn rows_code(engine: Engine, values: &[f32], audio: &[f32]) -> u8 {
+    let mut sound = 0u8;
+    let mut from = 0u8;
+    let a = engine.audio_part(audio, 0, &mut sound);
+    let b = engine.from_part(values, 0, &mut from);
+    most(sound, from)
+}
+
+// the number by which a frame, or the ends of chunks, are refused
+fn ends_code(engine: Engine, values: &[f32], audio: &[f32]) -> u8 {
+    let mut sound = 0u8;
+    let mut to = 0u8;
+    let a = engine.frame(audio, 0, 0, &mut sound);
+    let b = engine.to_part(values, 0, &mut to);
+    most(sound, to)
+}
+
+// the number by which outputs are refused, as every call that shows them gives it
+fn outputs_code(engine: Engine, values: &[f32], audio: &[f32]) -> u8 {
+    let shape = code_of(engine.output(values, audio, 0));
+    let rows = agreed(shape, rows_code(engine, values, audio));
+    agreed(rows, ends_code(engine, values, audio))
+}
+
 // The outputs of the destinations below `dests` (the session's registry) and of those that the installed program was compiled against; audio rows from
 // `start` to before `end`. Row 14 is judged whatever is printed.
 pub fn outputs(
@@ -477,7 +538,7 @@ pub fn outputs(
     out: &mut [u8],
     at: usize,
 ) -> Told {
-    let code = code_of(engine.output(values, audio, 0));
+    let code = outputs_code(engine, values, audio);
     if code != 0 {
         return Told { code, at };
     }

@@ -6,7 +6,7 @@ use denote.Ref.{now}
 use Rattle.reading.proofs.Spots.{bounds}
 use Prim.Native.Nat.{ℕ, _+_}
 use Rattle.list.specs.Part.{part}
-use Rattle.reading.proofs.PartsRead.{no-frame-short, no-frame, frame-past, frame-is}
+use Rattle.reading.proofs.PartsRead.{both, no-frame-short, no-frame, frame-past, frame-is}
 use borrow.Author.Needs.{needs}
 use Rattle.reading.proofs.audio_frame.Statement.{statement}
 use Rattle.reading.proofs.audio_frame.Tie as tie
@@ -20,7 +20,7 @@ none-requires c κs = search needs
 returns : tie.Need-returns
 returns c =
     let a = c .before .before .before .before .args in
-    c .none .ensures ∙ sym (no-frame-short (a .state) (now (a .audio)) (a .dest) (sym (c .before .before .audio-short .ensures) ∙ c .before .if1 .taken) (a .frame))
+    both (c .none .ensures) (no-frame-short (a .state) (now (a .audio)) (a .dest) (sym (c .before .before .audio-short .ensures) ∙ c .before .if1 .taken) (a .frame))
 
 spot-of-requires : tie.Need-spot-of-requires
 spot-of-requires c κs = search needs
@@ -32,7 +32,7 @@ returns-2 : tie.Need-returns-2
 returns-2 c =
     let a = c .before .before .before .before .before .before .before .args in
     let s = c .before .before .before .spot-of in
-    c .none2 .ensures ∙ sym (no-frame (a .state) (now (a .audio)) (a .dest) (sym (c .before .before .before .before .before .audio-short .ensures) ∙ c .before .before .before .before .if1 .left) (s .result) (s .ensures) (not-true _ (c .before .if2 .taken)) (a .frame))
+    both (c .none2 .ensures) (no-frame (a .state) (now (a .audio)) (a .dest) (sym (c .before .before .before .before .before .audio-short .ensures) ∙ c .before .before .before .before .if1 .left) (s .result) (s .ensures) (not-true _ (c .before .if2 .taken)) (a .frame))
 
 frame-count-requires : tie.Need-frame-count-requires
 frame-count-requires c κs = search needs
@@ -44,7 +44,7 @@ returns-3 : tie.Need-returns-3
 returns-3 c =
     let a = c .before .before .before .before .before .before .before .before .before .before .args in
     let s = c .before .before .before .before .before .before .spot-of in
-    c .none3 .ensures ∙ sym (frame-past (a .state) (now (a .audio)) (a .dest) (sym (c .before .before .before .before .before .before .before .before .audio-short .ensures) ∙ c .before .before .before .before .before .before .before .if1 .left) (s .result) (s .ensures) (not-false _ (c .before .before .before .before .if2 .left)) (a .frame) (omega (arith, c .before .before .frame-count .ensures)))
+    both (c .none3 .ensures) (frame-past (a .state) (now (a .audio)) (a .dest) (sym (c .before .before .before .before .before .before .before .before .audio-short .ensures) ∙ c .before .before .before .before .before .before .before .if1 .left) (s .result) (s .ensures) (not-false _ (c .before .before .before .before .if2 .left)) (a .frame) (omega (arith, c .before .before .frame-count .ensures)))
 
 row-start-requires : tie.Need-row-start-requires
 row-start-requires c κs =
@@ -62,8 +62,8 @@ returns-4 c =
     let s = c .before .before .before .before .before .before .before .spot-of in
     let r = s .result in
     let m = now (a .audio) in
-    c .part .ensures ∙ ap (λ (n : ℕ). part m n (n + r .width)) (c .before .row-start .ensures)
-    ∙ frame-is (a .state) (now (a .audio)) (a .dest) (sym (c .before .before .before .before .before .before .before .before .before .audio-short .ensures) ∙ c .before .before .before .before .before .before .before .before .if1 .left) r (s .ensures) (not-false _ (c .before .before .before .before .before .if2 .left)) (a .frame) (omega (arith, c .before .before .before .frame-count .ensures))
+    both (c .part .ensures ∙ ap (λ (n : ℕ). part m n (n + r .width)) (c .before .row-start .ensures))
+    (frame-is (a .state) (now (a .audio)) (a .dest) (sym (c .before .before .before .before .before .before .before .before .before .audio-short .ensures) ∙ c .before .before .before .before .before .before .before .before .if1 .left) r (s .ensures) (not-false _ (c .before .before .before .before .before .if2 .left)) (a .frame) (omega (arith, c .before .before .before .frame-count .ensures)))
 
 pub audio-frame-spec : {M : Type 1} → statement M
 audio-frame-spec =

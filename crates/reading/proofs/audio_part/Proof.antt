@@ -3,7 +3,7 @@ use mathlib.Core.Path.{sym, _∙_}
 use borrow.Author.Tests.{not-true, not-false}
 use denote.Ref.{now}
 use Rattle.reading.proofs.Spots.{bounds}
-use Rattle.reading.proofs.PartsRead.{no-audio-short, no-audio, audio-part-is}
+use Rattle.reading.proofs.PartsRead.{both, no-audio-short, no-audio, audio-part-is}
 use borrow.Author.Needs.{needs}
 use Rattle.reading.proofs.audio_part.Statement.{statement}
 use Rattle.reading.proofs.audio_part.Tie as tie
@@ -17,7 +17,7 @@ none-requires c κs = search needs
 returns : tie.Need-returns
 returns c =
     let a = c .before .before .before .before .args in
-    c .none .ensures ∙ sym (no-audio-short (a .state) (now (a .audio)) (a .dest) (sym (c .before .before .audio-short .ensures) ∙ c .before .if1 .taken))
+    both (c .none .ensures) (no-audio-short (a .state) (now (a .audio)) (a .dest) (sym (c .before .before .audio-short .ensures) ∙ c .before .if1 .taken))
 
 spot-of-requires : tie.Need-spot-of-requires
 spot-of-requires c κs = search needs
@@ -29,7 +29,7 @@ returns-2 : tie.Need-returns-2
 returns-2 c =
     let a = c .before .before .before .before .before .before .before .args in
     let s = c .before .before .before .spot-of in
-    c .none2 .ensures ∙ sym (no-audio (a .state) (now (a .audio)) (a .dest) (sym (c .before .before .before .before .before .audio-short .ensures) ∙ c .before .before .before .before .if1 .left) (s .result) (s .ensures) (not-true _ (c .before .if2 .taken)))
+    both (c .none2 .ensures) (no-audio (a .state) (now (a .audio)) (a .dest) (sym (c .before .before .before .before .before .audio-short .ensures) ∙ c .before .before .before .before .if1 .left) (s .result) (s .ensures) (not-true _ (c .before .if2 .taken)))
 
 frame-count-requires : tie.Need-frame-count-requires
 frame-count-requires c κs = search needs
@@ -44,7 +44,7 @@ returns-3 : tie.Need-returns-3
 returns-3 c =
     let a = c .before .before .before .before .before .before .before .before .before .args in
     let s = c .before .before .before .before .before .spot-of in
-    c .rows .ensures ∙ audio-part-is (a .state) (now (a .audio)) (a .dest) (sym (c .before .before .before .before .before .before .before .audio-short .ensures) ∙ c .before .before .before .before .before .before .if1 .left) (s .result) (s .ensures) (not-false _ (c .before .before .before .if2 .left)) (c .before .frame-count .ensures)
+    both (c .rows .ensures) (audio-part-is (a .state) (now (a .audio)) (a .dest) (sym (c .before .before .before .before .before .before .before .audio-short .ensures) ∙ c .before .before .before .before .before .before .if1 .left) (s .result) (s .ensures) (not-false _ (c .before .before .before .if2 .left)) (c .before .frame-count .ensures))
 
 pub audio-part-spec : {M : Type 1} → statement M
 audio-part-spec =
