@@ -182,6 +182,7 @@ class Owed:
                      (11, feed[:3] in ("amt", "out") and int(feed[4:]) > 63), (12, len(self.dests) >= 1024))
 
     def row_swap(self, p):
+        # row 6, a program's amounts and outputs: a line installs only what compile made, whose are finite
         a, b = p["config"], self.engine[0]
         return first((7, (number(a[0]),) + a[1:] != (number(b[0]),) + b[1:]),
                      (8, p["routes"] and (p["sources"] > self.engine[1] or p["dests"] > self.engine[2])))

@@ -1,13 +1,15 @@
 -- The definitions, computed.
 use mathlib.Core.Path.{_≡_, refl}
-use mathlib.Core.Bool.{false}
+use mathlib.Core.Bool.{true, false}
 use mathlib.Core.List.{[], _∷_}
 use lib.IntN.{pos}
-use lib.Ieee.{nan, fin, lt, le, add, sub, mul, div, ofInt, toUnsigned}
+use lib.Ieee.{nan, inf, fin, neg, isNan, lt, le, add, sub, mul, div, ofInt, toUnsigned}
 use Rattle.judge.specs.Judge.{judged}
-use Rattle.number.specs.Number.{zero32, half32, one32, finite, clampTo}
+use Rattle.number.specs.Number.{zero32, half32, one32, finite, max32, clampTo}
 use Rattle.table.specs.Table.{position, cellOf, partOf, lookupOf, allowed, allAllowed, tableCode}
-use Rattle.curve.specs.CurveCalls.{lookupCall, diagonalTable}
+use Rattle.table.specs.Curve.{secondsOf, secondsFinite, curveCode}
+use Rattle.table.specs.declared.Curve.the-variants as C
+use Rattle.curve.specs.CurveCalls.{lookupCall, slewCall, diagonalTable}
 
 -- the diagonal is accepted, and 0.5 and a NaN are looked up in it
 accepted : (lookupCall diagonalTable half32 ≡ record { code = 0; value = half32 }) × (lookupCall diagonalTable nan ≡ record { code = 0; value = nan })
@@ -18,3 +20,8 @@ accepted = (refl, refl)
 refused : (lookupCall (one32 ∷ []) half32 ≡ record { code = 15; value = zero32 }) × (lookupCall (fin false 17 (pos 0) ∷ []) half32 ≡ record { code = 6; value = zero32 })
 unfolding lookupCall tableCode judged allAllowed allowed finite le
 refused = (refl, refl)
+
+-- a fall below 0 is 0, and a linear curve has no seconds; an infinite rise or a NaN is row 6
+slews : (slewCall (C.Table half32 (neg one32)) ≡ record { code = 0; seconds = record { rise = half32; fall = zero32 } }) × (slewCall C.Linear ≡ record { code = 0; seconds = record { rise = zero32; fall = zero32 } }) × (slewCall (C.Table (inf false) zero32) ≡ record { code = 6; seconds = record { rise = zero32; fall = zero32 } }) × (slewCall (C.Table half32 nan) ≡ record { code = 6; seconds = record { rise = zero32; fall = zero32 } })
+unfolding slewCall curveCode judged secondsFinite secondsOf finite max32 isNan neg lt
+slews = (refl, refl, refl, refl)

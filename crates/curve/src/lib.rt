@@ -1,7 +1,7 @@
 // Curves: the public calls on tables. The definitions that contracts cite are in specs/CurveCalls.antt and in the crate table.
 ghost use mathlib.Core.Path.{_≡_};
-ghost use Rattle.table.specs.Curve.{isLinear, secondsOf};
-ghost use Rattle.curve.specs.CurveCalls.{lookupCall, diagonalTable};
+ghost use Rattle.table.specs.Curve.{isLinear};
+ghost use Rattle.curve.specs.CurveCalls.{lookupCall, slewCall, diagonalTable};
 use table::Curve;
 use table::POINTS;
 use table::Seconds;
@@ -10,6 +10,12 @@ use table::Seconds;
 pub struct Looked {
     pub code: u8,
     pub value: f32,
+}
+
+// a number by which the call is refused, or 0 and the curve's seconds
+pub struct Slewed {
+    pub code: u8,
+    pub seconds: Seconds,
 }
 
 // the table at x; a table that is refused gives 0
@@ -33,11 +39,23 @@ pub fn is_linear(curve: Curve) -> bool
     table::is_linear(curve)
 }
 
-// a curve's rise and fall in seconds, below 0 taken as 0
-pub fn slew(curve: Curve) -> Seconds
-    ensures { λ r. ⌜ r ≡ secondsOf curve ⌝ }
+// a curve's rise and fall in seconds, below 0 taken as 0; a curve that is refused gives 0 for both
+pub fn slew(curve: Curve) -> Slewed
+    ensures { λ r. ⌜ r ≡ slewCall curve ⌝ }
 {
-    table::seconds_of(curve)
+    let code = table::curve_code(curve);
+    if code != 0 {
+        let none = Seconds {
+            rise: 0.0,
+            fall: 0.0,
+        };
+        return Slewed {
+            code,
+            seconds: none,
+        };
+    }
+    let seconds = table::seconds_of(curve);
+    Slewed { code: 0, seconds }
 }
 
 // the table that maps each number from 0 to 1 to itself

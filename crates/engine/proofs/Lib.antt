@@ -2,3 +2,4 @@ pub mod SettingDone
 pub mod SettingNew
 pub mod NotingCalls
 pub mod Processing
+pub mod PartsRefused

@@ -20,7 +20,7 @@ use Rattle.state.specs.declared.State.{State}
 use Rattle.model.specs.Feeds.{isVoice}
 use Rattle.model.specs.World.{World, worldOf, noMark}
 use Rattle.model.specs.States.{withMarks, withGains, withLimit, withPrimed, withProgram, putState, putHeld, putGlobals, putBases}
-use Rattle.model.specs.Settings.{Done, doneBy, heldRows, heldWorld, voiceHeldRows, baseRows, gainRows, withAmount, withOutput, installed, Swap, setHeld, setVoiceHeld, setBase, setAmount, setOutput, setVoiceLimit, swapProgram}
+use Rattle.model.specs.Settings.{Done, doneBy, heldRows, heldWorld, voiceHeldRows, baseRows, gainRows, withAmount, withOutput, installed, gainsFinite, Swap, setHeld, setVoiceHeld, setBase, setAmount, setOutput, setVoiceLimit, swapProgram}
 use Rattle.setting.specs.Codes.{heldCode, voiceHeldCode, baseCode, gainCode, swapCode}
 
 -- ---- a call by its code
@@ -173,13 +173,13 @@ limit-set st n limit e =
 
 -- ---- swap
 
-module _ (st : State) (p : Program) (code : ℕ) (e : code ≡ swapCode (st .config) (st .sources) (st .dests) (p .config) (p .sources) (p .dests) (p .routes)) where
+module _ (st : State) (p : Program) (b : Bool) (f : b ≡ gainsFinite (p .gains)) (code : ℕ) (e : code ≡ swapCode b (st .config) (st .sources) (st .dests) (p .config) (p .sources) (p .dests) (p .routes)) where
   swap-by : ℕ → Swap
   swap-by k = record { code = k; state = cond (eqb k 0) (installed st p) st; program = cond (eqb k 0) (st .program) p }
 
   swap-is : swap-by code ≡ swapProgram st p
   unfolding swapProgram swapCode swap-by
-  swap-is = ap swap-by e
+  swap-is = ap swap-by (e ∙ ap (λ (z : Bool). swapCode z (st .config) (st .sources) (st .dests) (p .config) (p .sources) (p .dests) (p .routes)) f)
 
   pub swap-refused : code ≢ 0 → (code ≡ swapProgram st p .code) × ((st ≡ swapProgram st p .state) × (p ≡ swapProgram st p .program))
   unfolding swap-by

@@ -100,7 +100,9 @@ impl Engine {
         let mut state = self.state;
         let config = state.config;
         let other = program.config;
+        let gains = program.gains;
         let code = setting::swap_code(
+            setting::gains_finite(gains),
             config,
             state.sources,
             state.dests,
@@ -117,7 +119,6 @@ impl Engine {
             };
         }
         let old = state.program;
-        let gains = program.gains;
         let voices = state.voices;
         let active = voices.active;
         let marks = state.marks;

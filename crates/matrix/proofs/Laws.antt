@@ -15,11 +15,11 @@ use Rattle.config.specs.Sizes.{slots}
 use Rattle.table.specs.Table.{points}
 use Rattle.state.specs.declared.Slot.{Slot}
 use Rattle.state.specs.declared.Matrix.{Matrix}
-use Rattle.tables.specs.Tables.{tablesNeed, namesTable}
+use Rattle.tables.specs.Tables.{tablesNeed, withTables, namesTable}
 use Rattle.sorting.specs.Moved.{slotsAt, movedTables}
 use Rattle.slot.specs.Matrix.{withSlots, withSlot}
 use Rattle.tables.specs.Rows.{finiteRow, tableRows}
-use Rattle.matrix.specs.Edits.{slotRow, answered, placed, tabled, sortedFrom, sortSlots}
+use Rattle.matrix.specs.Edits.{slotRow, answered, placed, tabled, sortedFrom, matrixAllowed, sortSlots, loadMatrix}
 use Rattle.slot.specs.Slots.{firstEmpty, routeSlot, keptAmount}
 use Rattle.editing.specs.Drag.{bothFinite, polarityAt, depthAt, draggedAmount}
 use Rattle.editing.specs.Free.{firstFree}
@@ -67,22 +67,61 @@ tabled-accepted code m next t w e = (simp e, simp e)
 
 -- ---- sorting
 
--- no table is named: none is lent
-pub sort-plain : (m next : Matrix) (t : List Float) (by : SortBy) (places : List ℕ) → namesTable m ≡ false → places ≡ sortedFrom m by
-    → next ≡ withSlots m (slotsAt places (m .slot)) → (_≡_ {A = Edited} (record { code = 0; matrix = next }) (sortSlots m t by .answer)) × (t ≡ sortSlots m t by .tables)
-unfolding sortSlots tabled answered judged
-sort-plain m next t by places un p e = (simp (un, e, p), simp un)
+module _ (m : Matrix) (t : List Float) (by : SortBy) where
+  -- a number that row 6 bars
+  pub sort-barred : matrixAllowed m t ≡ false
+      → (_≡_ {A = Edited} (record { code = 6; matrix = m }) (sortSlots m t by .answer)) × (t ≡ sortSlots m t by .tables)
+  unfolding sortSlots tabled answered judged
+  sort-barred bad = (simp bad, simp bad)
 
-pub sort-short : (m : Matrix) (t : List Float) (by : SortBy) → namesTable m ≡ true → length t < tablesNeed
-    → (_≡_ {A = Edited} (record { code = 14; matrix = m }) (sortSlots m t by .answer)) × (t ≡ sortSlots m t by .tables)
-unfolding sortSlots tabled answered judged
-sort-short m t by named h = (simp (named, lt-ltb _ _ h), simp (named, lt-ltb _ _ h))
+  module _ (ok : matrixAllowed m t ≡ true) where
+    -- no table is named: none is lent
+    pub sort-plain : (next : Matrix) (places : List ℕ) → namesTable m ≡ false → places ≡ sortedFrom m by → next ≡ withSlots m (slotsAt places (m .slot))
+        → (_≡_ {A = Edited} (record { code = 0; matrix = next }) (sortSlots m t by .answer)) × (t ≡ sortSlots m t by .tables)
+    unfolding sortSlots tabled answered judged
+    sort-plain next places un p e = (simp (ok, un, e, p), simp (ok, un))
 
-pub sort-named : (m next : Matrix) (t : List Float) (by : SortBy) (places : List ℕ) → namesTable m ≡ true → tablesNeed ≤ length t → places ≡ sortedFrom m by
-    → next ≡ withSlots m (slotsAt places (m .slot))
-    → (_≡_ {A = Edited} (record { code = 0; matrix = next }) (sortSlots m t by .answer)) × (movedTables places t ≡ sortSlots m t by .tables)
-unfolding sortSlots tabled answered judged
-sort-named m next t by places named h p e = (simp (named, le-ltb _ _ h, e, p), simp (named, le-ltb _ _ h, p))
+    pub sort-short : namesTable m ≡ true → length t < tablesNeed
+        → (_≡_ {A = Edited} (record { code = 14; matrix = m }) (sortSlots m t by .answer)) × (t ≡ sortSlots m t by .tables)
+    unfolding sortSlots tabled answered judged
+    sort-short named h = (simp (ok, named, lt-ltb _ _ h), simp (ok, named, lt-ltb _ _ h))
+
+    pub sort-named : (next : Matrix) (places : List ℕ) → namesTable m ≡ true → tablesNeed ≤ length t → places ≡ sortedFrom m by
+        → next ≡ withSlots m (slotsAt places (m .slot))
+        → (_≡_ {A = Edited} (record { code = 0; matrix = next }) (sortSlots m t by .answer)) × (movedTables places t ≡ sortSlots m t by .tables)
+    unfolding sortSlots tabled answered judged
+    sort-named next places named h p e = (simp (ok, named, le-ltb _ _ h, e, p), simp (ok, named, le-ltb _ _ h, p))
+
+-- ---- loading
+
+module _ (m : Matrix) (t : List Float) (o : Matrix) (u : List Float) where
+  pub load-barred : matrixAllowed o u ≡ false
+      → (_≡_ {A = Edited} (record { code = 6; matrix = m }) (loadMatrix m t o u .answer)) × (t ≡ loadMatrix m t o u .tables)
+  unfolding loadMatrix tabled answered judged
+  load-barred bad = (simp bad, simp bad)
+
+  module _ (ok : matrixAllowed o u ≡ true) where
+    pub load-plain : namesTable o ≡ false
+        → (_≡_ {A = Edited} (record { code = 0; matrix = o }) (loadMatrix m t o u .answer)) × (t ≡ loadMatrix m t o u .tables)
+    unfolding loadMatrix tabled answered judged
+    load-plain un = (simp (ok, un), simp (ok, un))
+
+    module _ (named : namesTable o ≡ true) where
+      pub load-short : length t < tablesNeed
+          → (_≡_ {A = Edited} (record { code = 14; matrix = m }) (loadMatrix m t o u .answer)) × (t ≡ loadMatrix m t o u .tables)
+      unfolding loadMatrix tabled answered judged
+      load-short h = (simp (ok, named, lt-ltb _ _ h), simp (ok, named, lt-ltb _ _ h))
+
+      module _ (long : tablesNeed ≤ length t) where
+        pub load-other-short : length u < tablesNeed
+            → (_≡_ {A = Edited} (record { code = 14; matrix = m }) (loadMatrix m t o u .answer)) × (t ≡ loadMatrix m t o u .tables)
+        unfolding loadMatrix tabled answered judged
+        load-other-short h = (simp (ok, named, le-ltb _ _ long, lt-ltb _ _ h), simp (ok, named, le-ltb _ _ long, lt-ltb _ _ h))
+
+        pub load-named : tablesNeed ≤ length u
+            → (_≡_ {A = Edited} (record { code = 0; matrix = o }) (loadMatrix m t o u .answer)) × (withTables t u ≡ loadMatrix m t o u .tables)
+        unfolding loadMatrix tabled answered judged
+        load-named h = (simp (ok, named, le-ltb _ _ long, le-ltb _ _ h), simp (ok, named, le-ltb _ _ long, le-ltb _ _ h))
 
 -- ---- routes that the editor makes
 

@@ -16,8 +16,8 @@ use Rattle.state.specs.declared.Polarity.{Polarity}
 use Rattle.state.specs.declared.NoteCurve.the-variants as N
 use Rattle.state.specs.declared.Slot.{Slot}
 use Rattle.state.specs.declared.Matrix.{Matrix}
-use Rattle.slot.specs.Slots.{emptySlot, firstEmpty, routeSlot, keptAmount, keptOutput, cleared, countAims, numbersFinite, withAmount, withOutput, withBypass, withPolarity, withAux}
-use Rattle.tables.specs.Tables.{tablesNeed, withTable, withTables, namesTable}
+use Rattle.slot.specs.Slots.{emptySlot, firstEmpty, routeSlot, keptAmount, keptOutput, cleared, countAims, numbersFinite, allFinite, withAmount, withOutput, withBypass, withPolarity, withAux}
+use Rattle.tables.specs.Tables.{tablesNeed, withTable, withTables, namesTable, namedAllowed}
 use Rattle.tables.specs.Rows.{finiteRow, tableRows, curveAllowed}
 use Rattle.sorting.specs.Keys.{keyOf}
 use Rattle.sorting.specs.Order.{sortedPlaces}
@@ -148,16 +148,31 @@ bySource S.Destination = false
 unfoldable pub sortedFrom : Matrix → SortBy → List ℕ
 sortedFrom m by = sortedPlaces (map (keyOf (bySource by)) (m .slot))
 
+-- row 6 of a whole matrix: amounts, outputs and seconds of its slots, and the numbers of the tables that it names
+unfoldable pub matrixAllowed : Matrix → List Float → Bool
+matrixAllowed m tables = allFinite (m .slot) && namedAllowed m tables
+
+abbrev pub sortRows : Matrix → List Float → List Row
+sortRows m tables =
+    finiteRow (matrixAllowed m tables) ∷ 14 when (namesTable m && ltb (length tables) tablesNeed) ∷ []
+
 -- matrix.rs 311-319; each slot's two tables move with it
 unfoldable pub sortSlots : Matrix → List Float → SortBy → WithTables
 sortSlots m tables by =
-    tabled (judged (14 when (namesTable m && ltb (length tables) tablesNeed) ∷ [])) m
+    tabled (judged (sortRows m tables)) m
     (withSlots m (slotsAt (sortedFrom m by) (m .slot)))
     tables
     (cond (namesTable m) (movedTables (sortedFrom m by) tables) tables)
 
--- matrix.rs 334-341, without the lock; tables are lent where the matrix that is loaded names one
+-- of the matrix that is loaded; tables are lent where it names one
+abbrev pub loadRows : List Float → Matrix → List Float → List Row
+loadRows tables other others =
+    finiteRow (matrixAllowed other others)
+    ∷ 14 when (namesTable other && (ltb (length tables) tablesNeed || ltb (length others) tablesNeed))
+    ∷ []
+
+-- matrix.rs 334-341, without the lock
 unfoldable pub loadMatrix : Matrix → List Float → Matrix → List Float → WithTables
 loadMatrix m tables other others =
-    tabled (judged (14 when (namesTable other && (ltb (length tables) tablesNeed || ltb (length others) tablesNeed)) ∷ [])) m other tables
+    tabled (judged (loadRows tables other others)) m other tables
     (cond (namesTable other) (withTables tables others) tables)

@@ -6,6 +6,8 @@ use lib.IntN.{negsuc}
 use lib.ListN.{replicate}
 use lib.Ieee.{nan, inf, fin, neg, isNan, sub, lt, le}
 use Rattle.judge.specs.Judge.{judged}
+use Rattle.list.specs.Part.{part}
+use Rattle.list.specs.Rows.{rowAt}
 use Rattle.number.specs.Number.{zero32, half32, one32, finite, min32, absOf, clampTo}
 use Rattle.table.specs.Table.{allowed, allAllowed}
 use Rattle.table.specs.Curve.{secondsFinite}
@@ -16,14 +18,14 @@ use Rattle.state.specs.declared.Polarity.the-variants as L
 use Rattle.state.specs.declared.NoteCurve.the-variants as N
 use Rattle.state.specs.declared.Slot.{Slot}
 use Rattle.state.specs.declared.Matrix.{Matrix}
-use Rattle.slot.specs.Slots.{emptySlot, isEmptySlot, firstEmpty, routeSlot, keptAmount, cleared, countAims, numbersFinite, withAmount, withAux, withSourceCurve}
-use Rattle.tables.specs.Tables.{slotNames, anyNames, namesTable}
+use Rattle.slot.specs.Slots.{emptySlot, isEmptySlot, firstEmpty, routeSlot, keptAmount, cleared, countAims, numbersFinite, allFinite, withAmount, withAux, withSourceCurve}
+use Rattle.tables.specs.Tables.{slotNames, anyNames, namesTable, placeAllowed, slotAllowed, slotsAllowed, namedAllowed}
 use Rattle.sorting.specs.Keys.{keyOf}
 use Rattle.sorting.specs.Order.{before, countBefore, rankOf, ranks, placesOf, sortedPlaces}
 use Rattle.sorting.specs.Moved.{slotsAt}
 use Rattle.slot.specs.Matrix.{newMatrix, slotOf, withSlots, withSlot, withVelocity}
 use Rattle.tables.specs.Rows.{curveAllowed}
-use Rattle.matrix.specs.Edits.{answered, edited, placed, tabled, slotAt, setSlot, addRoute, setSlotAmount, removeDestination, setCurve, sortedFrom, sortSlots, loadMatrix}
+use Rattle.matrix.specs.Edits.{answered, edited, placed, tabled, slotAt, setSlot, addRoute, setSlotAmount, removeDestination, setCurve, sortedFrom, matrixAllowed, sortSlots, loadMatrix}
 use Rattle.editing.specs.Drag.{bothFinite, centred, twoWay, polarityAt, oneWayRoom, within, depthAt, draggedAmount}
 use Rattle.editing.specs.Free.{inUse, firstFree}
 use Rattle.matrix.specs.Routes.{dragRoute, addVibrato, createVibrato, createVelocityToAmp, dragPolarity, limitDepth}
@@ -94,10 +96,22 @@ table-codes = (refl, refl, refl, refl)
 
 -- a matrix that names no table asks for none
 loading : (loadMatrix full [] newMatrix [] .answer ≡ record { code = 0; matrix = newMatrix }) × (loadMatrix full [] (withVelocity newMatrix N.Table) [] .answer ≡ record { code = 14; matrix = full })
-unfolding loadMatrix tabled answered judged namesTable anyNames slotNames newMatrix withVelocity emptySlot withSlots route routeSlot full
+unfolding loadMatrix tabled answered judged namesTable anyNames slotNames newMatrix withVelocity emptySlot withSlots route routeSlot full matrixAllowed allFinite numbersFinite secondsFinite finite namedAllowed slotsAllowed slotAllowed placeAllowed rowAt part allAllowed allowed le
 loading = (refl, refl)
 
 -- by source: the empty slot last; a matrix that names a table asks for them
 sorting-two : (sortSlots (withSlots newMatrix (emptySlot ∷ route ∷ [])) [] S.Source .answer ≡ record { code = 0; matrix = withSlots newMatrix (route ∷ emptySlot ∷ []) }) × (sortSlots (withVelocity newMatrix N.Table) [] S.Destination .answer ≡ record { code = 14; matrix = withVelocity newMatrix N.Table })
-unfolding sortSlots sortedFrom sortedPlaces placesOf ranks rankOf countBefore before keyOf slotsAt tabled answered judged namesTable anyNames slotNames isEmptySlot newMatrix withVelocity emptySlot withSlots route routeSlot
+unfolding sortSlots sortedFrom sortedPlaces placesOf ranks rankOf countBefore before keyOf slotsAt tabled answered judged namesTable anyNames slotNames isEmptySlot newMatrix withVelocity emptySlot withSlots route routeSlot matrixAllowed allFinite numbersFinite secondsFinite finite namedAllowed slotsAllowed slotAllowed placeAllowed rowAt part allAllowed allowed le
 sorting-two = (refl, refl)
+
+-- a slot's amount that is not finite, or a number beyond 16 in a named table, is row 6, before row 14; where no curve names the table it may hold anything
+barred : Matrix
+barred = withSlots newMatrix (withAmount (inf false) emptySlot ∷ [])
+
+not-loaded : (loadMatrix full [] barred [] .answer ≡ record { code = 6; matrix = full }) × (loadMatrix full [] (withSlots newMatrix (withSourceCurve (C.Table nan zero32) emptySlot ∷ [])) [] .answer ≡ record { code = 6; matrix = full }) × (loadMatrix full [] (withSlots newMatrix (withSourceCurve (C.Table one32 zero32) emptySlot ∷ [])) (nan ∷ []) .answer ≡ record { code = 6; matrix = full }) × (loadMatrix full [] newMatrix (nan ∷ []) .answer ≡ record { code = 0; matrix = newMatrix })
+unfolding loadMatrix tabled answered judged namesTable anyNames slotNames newMatrix withVelocity emptySlot withSlots withAmount withSourceCurve route routeSlot full barred matrixAllowed allFinite numbersFinite secondsFinite finite namedAllowed slotsAllowed slotAllowed placeAllowed rowAt part allAllowed allowed le
+not-loaded = (refl, refl, refl, refl)
+
+not-sorted : (sortSlots barred [] S.Source .answer ≡ record { code = 6; matrix = barred }) × (sortSlots (withSlots newMatrix (withSourceCurve (C.Table one32 zero32) emptySlot ∷ [])) (nan ∷ []) S.Source .answer .code ≡ 6)
+unfolding sortSlots sortedFrom sortedPlaces placesOf ranks rankOf countBefore before keyOf slotsAt tabled answered judged namesTable anyNames slotNames isEmptySlot newMatrix withVelocity emptySlot withSlots withAmount withSourceCurve barred matrixAllowed allFinite numbersFinite secondsFinite finite namedAllowed slotsAllowed slotAllowed placeAllowed rowAt part allAllowed allowed le
+not-sorted = (refl, refl)

@@ -8,7 +8,7 @@ ghost use Rattle.tables.specs.Tables.{places};
 ghost use Rattle.slot.specs.Matrix.{newMatrix, slotsOf, withSlot};
 ghost use Rattle.matrix.specs.Which.{withCurve, withNote, placeOf, notePlace};
 ghost use Rattle.tables.specs.Rows.{finiteRow};
-ghost use Rattle.matrix.specs.Edits.{slotRow, answered, placed, slotAt, setSlot, addRoute, removeSlot, setBypass, setSlotAmount, setSlotOutput, setPolarity, setAux, setLinear, removeDestination, setGlide, setVelocityLegato, setNoteLinear, setCurve, setNoteCurve, bySource, sortSlots, loadMatrix};
+ghost use Rattle.matrix.specs.Edits.{slotRow, answered, placed, slotAt, setSlot, addRoute, removeSlot, setBypass, setSlotAmount, setSlotOutput, setPolarity, setAux, setLinear, removeDestination, setGlide, setVelocityLegato, setNoteLinear, setCurve, setNoteCurve, matrixAllowed, bySource, sortSlots, loadMatrix};
 ghost use Rattle.matrix.specs.Routes.{dragRoute, addVibrato, createVibrato, createVelocityToAmp, dragPolarity, limitDepth};
 use config::SLOTS;
 use state::Matrix;
@@ -540,11 +540,25 @@ fn by_source(by: SortBy) -> bool
     }
 }
 
+// row 6 of a whole matrix
+fn matrix_allowed(matrix: Matrix, tables: &[f32]) -> bool
+    ensures { λ r. ⌜ r ≡ matrixAllowed matrix (now (tables .entry)) ⌝ }
+{
+    let slot = matrix.slot;
+    if !slot::all_finite(slot) {
+        return false;
+    }
+    tables::named_allowed(matrix, tables)
+}
+
 // the slots in order, their tables with them
 pub fn sort(matrix: Matrix, tables: &mut [f32], by: SortBy) -> Edited
     ensures answer { λ r. ⌜ r ≡ sortSlots matrix (now (tables .entry)) by .answer ⌝ }
     ensures lent { λ _. ⌜ now (tables .exit) ≡ sortSlots matrix (now (tables .entry)) by .tables ⌝ }
 {
+    if !matrix_allowed(matrix, tables) {
+        return Edited { code: 6, matrix };
+    }
     let slot = matrix.slot;
     let places = sorting::places_by(by_source(by), slot);
     let next = slot::with_slots(matrix, sorting::slots_at(places, slot));
@@ -571,6 +585,9 @@ pub fn load(matrix: Matrix, tables: &mut [f32], other: Matrix, other_tables: &[f
     ensures answer { λ r. ⌜ r ≡ loadMatrix matrix (now (tables .entry)) other (now («other_tables» .entry)) .answer ⌝ }
     ensures lent { λ _. ⌜ now (tables .exit) ≡ loadMatrix matrix (now (tables .entry)) other (now («other_tables» .entry)) .tables ⌝ }
 {
+    if !matrix_allowed(other, other_tables) {
+        return Edited { code: 6, matrix };
+    }
     if !tables::names_table(other) {
         return Edited {
             code: 0,

@@ -8,6 +8,7 @@ pub mod LayoutHolds
 pub mod ProgramLayout
 pub mod Made
 pub mod Refusals
+pub mod FiniteGains
 pub mod Frames
 pub mod Conds
 pub mod ModelRuns

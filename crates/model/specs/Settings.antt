@@ -195,9 +195,18 @@ setVoiceLimit w n = doneBy [] w (putState w (withLimit (w .state) (max n 1)))
 abbrev pub sameConfig : Config → Config → Bool
 sameConfig a b = eq (a .«sample_rate») (b .«sample_rate») && (eqb (a .«max_frames») (b .«max_frames») && eqb (a .voices) (b .voices))
 
+abbrev pub everyFinite : List Float → Bool
+everyFinite [] = true
+everyFinite (x ∷ xs) = finite x && everyFinite xs
+
+-- a program's amounts and outputs, which become the engine's. The rates of its slews may be infinite, as those of 0 seconds are
+abbrev pub gainsFinite : Gains → Bool
+gainsFinite g = everyFinite (g .amount) && everyFinite (g .output)
+
 abbrev pub swapRows : State → Program → List Row
 swapRows st p =
-    7 when not (sameConfig (st .config) (p .config))
+    6 when not (gainsFinite (p .gains))
+    ∷ 7 when not (sameConfig (st .config) (p .config))
     ∷ 8 when (not (eqb (routeTotal p) 0) && (ltb (engineSources st) (p .sources) || ltb (engineDests st) (p .dests)))
     ∷ []
 

@@ -450,7 +450,13 @@ fn row_start(a: usize, width: usize, k: usize) -> usize
 }
 
 // the audio row of dest at a frame
-pub fn audio_frame<'a>(state: State, audio: &'a [f32], dest: usize, frame: usize, code: &mut u8) -> &'a [f32]
+pub fn audio_frame<'a>(
+    state: State,
+    audio: &'a [f32],
+    dest: usize,
+    frame: usize,
+    code: &mut u8,
+) -> &'a [f32]
     ensures { λ r. ⌜ (now r ≡ framePart state (now (audio .entry)) dest frame .numbers) × (now (code .exit) ≡ framePart state (now (audio .entry)) dest frame .code) ⌝ }
 {
     if audio_short(state, audio.len()) {

@@ -45,11 +45,12 @@ unfoldable pub gainCode : ℕ → Float → ℕ
 unfolding judged
 gainCode n x = judged (5 when leb slots n ∷ 6 when not (finite x) ∷ [])
 
--- of the engine's configuration and counts, and of the program's with its routes
-unfoldable pub swapCode : Config → ℕ → ℕ → Config → ℕ → ℕ → ℕ → ℕ
+-- whether the program's gains are finite; then of the engine's configuration and counts, and of the program's with its routes
+unfoldable pub swapCode : Bool → Config → ℕ → ℕ → Config → ℕ → ℕ → ℕ → ℕ
 unfolding judged
-swapCode c n d c′ n′ d′ routes =
+swapCode gains c n d c′ n′ d′ routes =
     judged
-    (7 when not (sameConfig c c′)
+    (6 when not gains
+    ∷ 7 when not (sameConfig c c′)
     ∷ 8 when (not (eqb (min routes slots) 0) && (ltb (min n mostSources) n′ || ltb (min d mostDestinations) d′))
     ∷ [])

@@ -8,7 +8,7 @@ ghost use Rattle.config.specs.Sizes.{mostSources, mostDestinations, mostVoices,
 ghost use Rattle.list.specs.Rows.{onRow};
 ghost use Rattle.model.specs.Feeds.{isVoice};
 ghost use Rattle.model.specs.World.{noMark};
-ghost use Rattle.model.specs.Settings.{markOf, refusedState, withAmount, withOutput, sameConfig};
+ghost use Rattle.model.specs.Settings.{markOf, refusedState, withAmount, withOutput, sameConfig, everyFinite, gainsFinite};
 ghost use Rattle.setting.specs.Codes.{newShort, newCode, heldCode, voiceHeldCode, baseCode, gainCode, swapCode};
 ghost use Rattle.setting.specs.Fresh.{freshOf};
 use config::Config;
@@ -231,8 +231,35 @@ fn same_config(a: Config, b: Config) -> bool
     a.voices == b.voices
 }
 
-// rows 7 and 8 of `swap`: the engine's configuration and counts, and the program's
+// whether every number is finite
+fn every_finite(x: [f32; SLOTS]) -> bool
+    ensures { λ r. ⌜ r ≡ everyFinite x ⌝ }
+{
+    let mut i = 0usize;
+    while i < SLOTS {
+        if !number::is_finite(x[i]) {
+            return false;
+        }
+        i += 1usize;
+    }
+    true
+}
+
+// whether a program's amounts and outputs are finite
+pub fn gains_finite(gains: Gains) -> bool
+    ensures { λ r. ⌜ r ≡ gainsFinite gains ⌝ }
+{
+    let amount = gains.amount;
+    if !every_finite(amount) {
+        return false;
+    }
+    let output = gains.output;
+    every_finite(output)
+}
+
+// rows 6, 7 and 8 of `swap`: whether the program's gains are finite; the engine's configuration and counts, and the program's
 pub fn swap_code(
+    gains: bool,
     config: Config,
     sources: usize,
     dests: usize,
@@ -241,8 +268,11 @@ pub fn swap_code(
     other_dests: usize,
     routes: usize,
 ) -> u8
-    ensures { λ r. ⌜ r ≡ swapCode config sources dests other «other_sources» «other_dests» routes ⌝ }
+    ensures { λ r. ⌜ r ≡ swapCode gains config sources dests other «other_sources» «other_dests» routes ⌝ }
 {
+    if !gains {
+        return 6;
+    }
     if !same_config(config, other) {
         return 7;
     }
