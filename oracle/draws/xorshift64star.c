@@ -7,10 +7,10 @@
    STATE a state, NEXT the state after it, OUTPUT the paper's output there (NEXT times the
    multiplier), each as 16 hexadecimal digits; BITS the upper 24 bits of OUTPUT, and DRAW the
    binary32 pattern of BITS / 2^24, each as 8. With an argument it prints instead what Rosetta
-   Code's task "Pseudo-random numbers/Xorshift star" asks for: from the state 1234567 the upper
-   halves of five outputs, published as 3540625527, 2750739987, 4037983143, 1993361440 and
-   3809424708, and from 987654321 how often each fifth is drawn in 100,000 draws, published as
-   20103, 19922, 19937, 20031 and 20007.
+   Code's task "Pseudo-random numbers/Xorshift star" asks for, as remembered: from the state 1234567
+   the upper halves of five outputs, remembered as 3540625527, 2750739987, 4037983143, 1993361440
+   and 3809424708, and from 987654321 how often each fifth is drawn in 100,000 draws, remembered as
+   20103, 19922, 19937, 20031 and 20007. Neither that page nor the paper was opened.
 
    gcc -O2 -o xorshift64star xorshift64star.c && ./xorshift64star > draw.txt */
 #include <stdint.h>

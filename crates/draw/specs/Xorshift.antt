@@ -54,12 +54,13 @@ pub draw-one : drawOf (step 1) ≡ fin false 2355815 (negsuc 22)
 unfolding step scrambled drawBits drawOf ofInt div
 draw-one = refl
 
--- The upper halves of the first outputs from a state on. Those from 1234567 are as Rosetta Code's task "Pseudo-random numbers/Xorshift star" publishes them.
+-- The upper halves of the first outputs from a state on. Those from 1234567 are those of Rosetta Code's task
+-- "Pseudo-random numbers/Xorshift star" as remembered; neither that page nor the paper was opened.
 upperHalves : ℕ → ℕ → List ℕ
 unfolding step scrambled
 upperHalves zero x = []
 upperHalves (suc n) x = scrambled (step x) / 2 ^ 32 ∷ upperHalves n (step x)
 
-published : upperHalves 5 1234567 ≡ 3540625527 ∷ 2750739987 ∷ 4037983143 ∷ 1993361440 ∷ 3809424708 ∷ []
+remembered : upperHalves 5 1234567 ≡ 3540625527 ∷ 2750739987 ∷ 4037983143 ∷ 1993361440 ∷ 3809424708 ∷ []
 unfolding step scrambled upperHalves
-published = refl
+remembered = refl
