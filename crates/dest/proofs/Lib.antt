@@ -1,3 +1,4 @@
 pub mod Search
 pub mod Added
 pub mod Found
+pub mod Replies

@@ -1,3 +1,4 @@
 pub mod Entries
 pub mod Adding
 pub mod Info
+pub mod Replies

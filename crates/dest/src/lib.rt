@@ -2,6 +2,7 @@
 ghost use mathlib.Core.Path.{_≡_};
 ghost use Rattle.state.specs.Registry.{destCount, sameTarget};
 ghost use Rattle.dest.specs.Entries.{noDests, destsEmpty, getDest, findDest, isFound};
+ghost use Rattle.dest.specs.Replies.{entryReply, foundReply, entrySays, foundSays};
 ghost use Rattle.dest.specs.Adding.{badSlot, addCode, addDest};
 ghost use Rattle.dest.specs.Info.{
   withScope,
@@ -100,6 +101,7 @@ pub fn is_empty(dests: Destinations) -> bool
 // destination id, if it is registered
 pub fn get(dests: Destinations, id: usize) -> DestEntry
     ensures { λ r. ⌜ r ≡ getDest dests id ⌝ }
+    ensures reply { λ r. ⌜ entryReply r ≡ entrySays dests id ⌝ }
 {
     if id < len(dests) {
         let e = dests.entry[id];
@@ -111,6 +113,7 @@ pub fn get(dests: Destinations, id: usize) -> DestEntry
 // the destination of a target
 pub fn find(dests: Destinations, target: Target) -> DestFound
     ensures { λ r. ⌜ r ≡ findDest dests target ⌝ }
+    ensures reply { λ r. ⌜ foundReply r ≡ foundSays dests target ⌝ }
 {
     let n = len(dests);
     let mut i = 0;

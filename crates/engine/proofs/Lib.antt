@@ -3,3 +3,4 @@ pub mod SettingNew
 pub mod NotingCalls
 pub mod Processing
 pub mod PartsRefused
+pub mod Replies

@@ -1,2 +1,3 @@
 pub mod Noting
 pub mod Shown
+pub mod Replies

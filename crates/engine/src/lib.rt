@@ -12,6 +12,8 @@ ghost use Rattle.model.specs.Process.{process};
 ghost use Rattle.model.specs.States.{withDraw};
 ghost use Rattle.engine.specs.Noting.{noteOf, settingBy};
 ghost use Rattle.engine.specs.Shown.{engineState};
+ghost use Rattle.engine.specs.Replies.{chunkReply, outputReply, readingReply, rampedReply};
+ghost use Rattle.engine.specs.Replies.{chunkSays, outputSays, atSays, valueSays, latestSays, rampSays};
 use config::Config;
 use config::SIGNAL_STRIDE;
 use config::SOURCES;
@@ -588,6 +590,7 @@ impl Engine {
     // The shape of a destination's output.
     pub fn output(self, values: &[f32], audio: &[f32], dest: usize) -> Output
         ensures { λ r. ⌜ r ≡ outputOf (self .state) (now (values .entry)) (now (audio .entry)) dest ⌝ }
+        ensures reply { λ r. ⌜ outputReply r ≡ outputSays (self .state) (now (values .entry)) (now (audio .entry)) dest ⌝ }
     {
         let state = self.state;
         reading::output(state, values, audio, dest)
@@ -628,6 +631,7 @@ impl Engine {
     // Chunk i of them.
     pub fn chunk(self, i: usize) -> ChunkRead
         ensures { λ r. ⌜ r ≡ chunkAt (self .state) i ⌝ }
+        ensures reply { λ r. ⌜ chunkReply r ≡ chunkSays (self .state) i ⌝ }
     {
         let state = self.state;
         reading::chunk_at(state, i)
@@ -636,6 +640,7 @@ impl Engine {
     // The number at a frame, of an audio plan.
     pub fn at(self, audio: &[f32], dest: usize, frame: usize, voice: usize) -> Reading
         ensures { λ r. ⌜ r ≡ audioAt (self .state) (now (audio .entry)) dest frame voice ⌝ }
+        ensures reply { λ r. ⌜ readingReply r ≡ atSays (self .state) (now (audio .entry)) dest frame voice ⌝ }
     {
         let state = self.state;
         reading::at(state, audio, dest, frame, voice)
@@ -652,6 +657,7 @@ impl Engine {
     // The number after a chunk, of a control plan.
     pub fn value(self, values: &[f32], dest: usize, chunk: usize, voice: usize) -> Reading
         ensures { λ r. ⌜ r ≡ controlValue (self .state) (now (values .entry)) dest chunk voice ⌝ }
+        ensures reply { λ r. ⌜ readingReply r ≡ valueSays (self .state) (now (values .entry)) dest chunk voice ⌝ }
     {
         let state = self.state;
         reading::value(state, values, dest, chunk, voice)
@@ -660,6 +666,7 @@ impl Engine {
     // The ramp of a control plan over the last block, a number a frame.
     pub fn ramp(self, values: &[f32], dest: usize, voice: usize, out: &mut [f32]) -> Ramped
         ensures { λ r. ⌜ (r ≡ rampOf (self .state) (now (values .entry)) dest voice (now (out .entry)) .answer) × (now (out .exit) ≡ rampOf (self .state) (now (values .entry)) dest voice (now (out .entry)) .out) ⌝ }
+        ensures reply { λ r. ⌜ rampedReply r ≡ rampSays (self .state) (now (values .entry)) dest voice (now (out .entry)) ⌝ }
     {
         let state = self.state;
         reading::ramp(state, values, dest, voice, out)
@@ -668,6 +675,7 @@ impl Engine {
     // The number after the last chunk, or at its last frame.
     pub fn latest(self, values: &[f32], audio: &[f32], dest: usize, voice: usize) -> Reading
         ensures { λ r. ⌜ r ≡ latestOf (self .state) (now (values .entry)) (now (audio .entry)) dest voice ⌝ }
+        ensures reply { λ r. ⌜ readingReply r ≡ latestSays (self .state) (now (values .entry)) (now (audio .entry)) dest voice ⌝ }
     {
         let state = self.state;
         reading::latest(state, values, audio, dest, voice)

@@ -9,6 +9,7 @@ ghost use Rattle.slot.specs.Matrix.{newMatrix, slotsOf, withSlot};
 ghost use Rattle.matrix.specs.Which.{withCurve, withNote, placeOf, notePlace};
 ghost use Rattle.tables.specs.Rows.{finiteRow};
 ghost use Rattle.matrix.specs.Edits.{slotRow, answered, placed, slotAt, setSlot, addRoute, removeSlot, setBypass, setSlotAmount, setSlotOutput, setPolarity, setAux, setLinear, removeDestination, setGlide, setVelocityLegato, setNoteLinear, setCurve, setNoteCurve, matrixAllowed, bySource, sortSlots, loadMatrix};
+ghost use Rattle.matrix.specs.Replies.{placedReply, addSays, dragSays, vibratoSays};
 ghost use Rattle.matrix.specs.Routes.{dragRoute, addVibrato, createVibrato, createVelocityToAmp, dragPolarity, limitDepth};
 use config::SLOTS;
 use state::Matrix;
@@ -299,6 +300,7 @@ pub fn add(
     polarity: Polarity,
 ) -> Placed
     ensures { λ r. ⌜ r ≡ addRoute matrix source destination amount polarity ⌝ }
+    ensures reply { λ r. ⌜ placedReply r ≡ addSays matrix amount ⌝ }
 {
     let code = judge::row(!number::is_finite(amount), 6);
     let route = slot::route_slot(source, destination, slot::kept_amount(amount), polarity);
@@ -319,6 +321,7 @@ pub fn drag(
     limit: bool,
 ) -> Placed
     ensures { λ r. ⌜ r ≡ dragRoute matrix source destination position amount toggle limit ⌝ }
+    ensures reply { λ r. ⌜ placedReply r ≡ dragSays matrix position amount ⌝ }
 {
     let code = judge::row(!editing::both_finite(position, amount), 6);
     let polarity = editing::polarity_at(position, toggle);
@@ -349,6 +352,7 @@ pub fn create_vibrato(
     amount: f32,
 ) -> Placed
     ensures { λ r. ⌜ r ≡ createVibrato matrix (now (lfos .entry)) «mod_wheel» tuning amount ⌝ }
+    ensures reply { λ r. ⌜ placedReply r ≡ vibratoSays matrix (now (lfos .entry)) amount ⌝ }
 {
     if !number::is_finite(amount) {
         return Placed {
@@ -373,6 +377,7 @@ pub fn create_vibrato(
 // a route one way from the velocity to the amp
 pub fn create_velocity_to_amp(matrix: Matrix, velocity: usize, amp: Target, amount: f32) -> Placed
     ensures { λ r. ⌜ r ≡ createVelocityToAmp matrix velocity amp amount ⌝ }
+    ensures reply { λ r. ⌜ placedReply r ≡ addSays matrix amount ⌝ }
 {
     let one = Polarity::Unipolar;
     add(matrix, velocity, amp, amount, one)

@@ -1,3 +1,4 @@
 pub mod Counted
 pub mod Rates
 pub mod Compiling
+pub mod Replies

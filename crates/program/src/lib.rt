@@ -8,6 +8,8 @@ ghost use Rattle.number.specs.Number.{one32};
 ghost use Rattle.tables.specs.Tables.{tablesNeed};
 ghost use Rattle.model.specs.Compile.{emptyOf, emptyProgram, numbersAllowed, compile};
 ghost use Rattle.program.specs.Sizes.{strideCall, maxChunksCall};
+ghost use Rattle.program.specs.Replies.{planReply, routeReply, skippedReply, rateReply};
+ghost use Rattle.program.specs.Replies.{planSays, routeSays, skippedSays, rateSays};
 ghost use Rattle.program.specs.Readers.{routeCount, planCount, planAt, routeAt, skipCount, skippedAt, rateBy, rateOf, configOf};
 ghost use Rattle.program.specs.Steps.{earlyCode, heldValues, heldAudio, copied};
 use config::Config;
@@ -245,6 +247,7 @@ pub fn plan_count(program: Program) -> usize
 // plan i
 pub fn plan(program: Program, i: usize) -> PlanRead
     ensures { λ r. ⌜ r ≡ planAt program i ⌝ }
+    ensures reply { λ r. ⌜ planReply r ≡ planSays program i ⌝ }
 {
     if filled::held(program.plans) <= i {
         return PlanRead::Nothing;
@@ -256,6 +259,7 @@ pub fn plan(program: Program, i: usize) -> PlanRead
 // route i
 pub fn route(program: Program, i: usize) -> RouteRead
     ensures { λ r. ⌜ r ≡ routeAt program i ⌝ }
+    ensures reply { λ r. ⌜ routeReply r ≡ routeSays program i ⌝ }
 {
     if filled::held(program.routes) <= i {
         return RouteRead::Nothing;
@@ -274,6 +278,7 @@ pub fn skip_count(program: Program) -> usize
 // the i-th slot left out, and its reason
 pub fn skipped(program: Program, i: usize) -> SkippedRead
     ensures { λ r. ⌜ r ≡ skippedAt program i ⌝ }
+    ensures reply { λ r. ⌜ skippedReply r ≡ skippedSays program i ⌝ }
 {
     if filled::held(program.skips) <= i {
         return SkippedRead::Nothing;
@@ -294,6 +299,7 @@ fn rate_by(audio: bool) -> RateRead
 // the rate of the plan of dest
 pub fn rate(program: Program, dest: usize) -> RateRead
     ensures { λ r. ⌜ r ≡ rateOf program dest ⌝ }
+    ensures reply { λ r. ⌜ rateReply r ≡ rateSays program dest ⌝ }
 {
     let n = filled::held(program.plans);
     let mut i = 0;

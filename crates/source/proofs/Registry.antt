@@ -8,11 +8,12 @@ use native.Mathlib.Nat.{add-zero, le-of-suc-le-suc}
 use native.Mathlib.Numerals.{add-one}
 use native.Mathlib.Omega.{arith}
 use lib.Dec.{eqb}
-use lib.ListN.{length, getD, drop, drop-of-length-le}
+use lib.ListN.{length, getD, take, drop, drop-of-length-le}
 use lib.Seq.{drop-cons, length-take-le, getD-take}
 use borrow.Author.Tests.{ne-eqb}
 use Rattle.list.proofs.Elements.{getD-inside}
 use Rattle.judge.specs.Judge.{judged}
+use Rattle.reply.specs.Reply.{accepts, refuses, byRows}
 use Rattle.config.specs.Sizes.{mostSources}
 use Rattle.state.specs.declared.Kind.the-variants as K
 use Rattle.state.specs.declared.Scope.the-variants as S
@@ -24,7 +25,7 @@ use Rattle.source.specs.declared.SourceFound.the-variants as F
 use Rattle.source.specs.Keys.{mostKeyBytes, keyIs}
 use Rattle.source.proofs.Keys.{key-too-long}
 use Rattle.state.specs.Registry.{sourceCount}
-use Rattle.source.specs.Registry.{registered, findKey, isAt, foundCode, findRows, foundOr, findSource}
+use Rattle.source.specs.Registry.{registered, findKey, isAt, foundReply, findRows, foundOr, findSource, placesOf, foundSays}
 
 -- ---- the entries
 
@@ -132,22 +133,24 @@ found-first key es i h =
     let same : f .0 ≡ i = omega (arith, f .1) in
     rw same at (f .2)
 
--- ---- the number that an answer holds
+-- ---- what an answer says
 
-pick-code : (t : Bool) (a b : SourceFound) → foundCode a ≡ 0 → foundCode b ≡ 0 → foundCode (cond t a b) ≡ 0
-pick-code true a b p q = p
-pick-code false a b p q = q
+found-if : (b : Bool) (n : ℕ) (f : SourceFound) (ns : List ℕ) → foundReply f ≡ accepts (take 1 ns) → foundReply (cond b (F.At n) f) ≡ accepts (take 1 (cond b (n ∷ ns) ns))
+found-if true n f ns h = refl
+found-if false n f ns h = h
 
-find-code : (n : ℕ) (key : List ℕ) (es : List Source) → foundCode (findKey n key es) ≡ 0
+found-from : (n : ℕ) (key : List ℕ) (es : List Source) → foundReply (findKey n key es) ≡ accepts (take 1 (placesOf n key es))
 unfolding findKey
-find-code n key [] = refl
-find-code n key (e ∷ es) = pick-code (keyIs key e) (F.At n) (findKey (suc n) key es) refl (find-code (suc n) key es)
+found-from n key [] = refl
+found-from n key (e ∷ es) =
+    found-if (keyIs key e) n (findKey (suc n) key es) (placesOf (suc n) key es) (found-from (suc n) key es)
 
-or-code : (n : ℕ) (found : SourceFound) → foundCode found ≡ 0 → foundCode (foundOr n found) ≡ n
-or-code zero found h = h
-or-code (suc n) found h = refl
+or-says : (n : ℕ) (f : SourceFound) (ns : List ℕ) → foundReply f ≡ accepts ns → foundReply (foundOr n f) ≡ cond (eqb n 0) (accepts ns) (refuses n)
+or-says zero f ns h = h
+or-says (suc n) f ns h = rw (ne-eqb (suc n) 0 (λ e. omega arith))
 
--- refused exactly by the rows
-pub found-code : (s : Sources) (key : List ℕ) → foundCode (findSource s key) ≡ judged (findRows key)
-unfolding findSource
-found-code s key = or-code (judged (findRows key)) (findKey 0 key (registered s)) (find-code 0 key (registered s))
+-- `find`: the answer, and what it says
+pub find-said : (s : Sources) (key : List ℕ) (r : SourceFound) → r ≡ findSource s key → (r ≡ findSource s key) × (foundReply r ≡ foundSays s key)
+unfolding findSource foundSays byRows
+find-said s key r h =
+    (h, rw h (or-says (judged (findRows key)) (findKey 0 key (registered s)) _ (found-from 0 key (registered s))))

@@ -6,6 +6,7 @@ use Prim.Native.Nat.{ℕ, zero, suc, _+_, min}
 use lib.Dec.{eqb, ltb, leb}
 use lib.ListN.{length, take, getD, set, replicate}
 use Rattle.judge.specs.Judge.{Row, _when_, judged}
+use Rattle.reply.specs.Reply.{Reply, accepts, refuses, byRows}
 use Rattle.config.specs.Sizes.{mostSources}
 use Rattle.state.specs.Registry.{sourceCount, noSource as blankEntry}
 use Rattle.state.specs.declared.Kind.{Kind}
@@ -56,11 +57,11 @@ isAt (F.Refused code) = false
 isAt F.Nothing = false
 isAt (F.At n) = true
 
--- the number that the answer holds: that of a refusal, else 0
-abbrev pub foundCode : SourceFound → ℕ
-foundCode (F.Refused code) = code
-foundCode F.Nothing = 0
-foundCode (F.At n) = 0
+-- what the answer says: number and values of each case (document 01, The form to use in each place)
+abbrev pub foundReply : SourceFound → Reply ℕ
+foundReply (F.Refused code) = refuses code
+foundReply F.Nothing = accepts []
+foundReply (F.At n) = accepts (n ∷ [])
 
 -- row 15: a key above 32 bytes
 abbrev pub findRows : List ℕ → List Row
@@ -72,6 +73,16 @@ foundOr (suc n) found = F.Refused (suc n)
 
 unfoldable pub findSource : Sources → List ℕ → SourceFound
 findSource s key = foundOr (judged (findRows key)) (findKey 0 key (registered s))
+
+-- the numbers of the entries that have the key, the first entry's being n
+abbrev pub placesOf : ℕ → List ℕ → List Source → List ℕ
+placesOf n key [] = []
+placesOf n key (e ∷ es) = cond (keyIs key e) (n ∷ placesOf (suc n) key es) (placesOf (suc n) key es)
+
+-- what `find` says: the number by its row, else the first of the registered entries that have the key, if there is one
+unfoldable pub foundSays : Sources → List ℕ → Reply ℕ
+unfolding byRows
+foundSays s key = byRows (findRows key) (take 1 (placesOf 0 key (registered s)))
 
 -- ---- adding (source.rs 202-213)
 

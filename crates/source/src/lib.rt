@@ -10,6 +10,7 @@ ghost use Rattle.config.specs.Sizes.{mostSources};
 ghost use Rattle.source.specs.Keys.{mostKeyBytes, keyLength, keyIs, keyArray};
 ghost use Rattle.state.specs.Registry.{noSource as blankEntry, sourceCount};
 ghost use Rattle.source.specs.Registry.{noSources, sourcesEmpty, registered, getSource, findKey, isAt, findSource, addRows, withEntry, addSource};
+ghost use Rattle.source.specs.Registry.{foundReply, foundSays};
 ghost use Rattle.source.specs.Info.{engineOwned, usualScope, usualRange, usualInfo, infoVoice, infoGlobal, infoBipolar};
 ghost use Rattle.format.specs.Numbered.{numberedKey};
 ghost use Rattle.source.specs.Standard.{heldInfo, audioInfo, withSource, withNumbered, lfoPair, withLfos, withNoteSources, withControllers, withAudio, withSequence, allSources, audioKeys, total, anyLong, anySame, has, fixedSources, sequenceKey, standardKey, clashes, standardCount, standardRows, standardSources};
@@ -180,6 +181,7 @@ fn is_at(found: SourceFound) -> bool
 // The number of the source with this key.
 pub fn find(sources: Sources, key: &[u8]) -> SourceFound
     ensures { λ r. ⌜ r ≡ findSource sources (now (key .entry)) ⌝ }
+    ensures reply { λ r. ⌜ foundReply r ≡ foundSays sources (now (key .entry)) ⌝ }
 {
     if KEY_BYTES < key.len() {
         return SourceFound::Refused(15);

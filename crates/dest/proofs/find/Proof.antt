@@ -6,6 +6,7 @@ use native.Mathlib.Omega.{arith}
 use borrow.Author.Needs.{needs}
 use lib.ListN.{length}
 use Rattle.dest.proofs.Search.{length-mapped, unread, SearchedTo, searched-none, searched-here, searched-next, searched-all}
+use Rattle.dest.proofs.Replies.{find-said}
 use Rattle.dest.proofs.find.Statement.{statement}
 use Rattle.dest.proofs.find.Tie as tie
 
@@ -35,7 +36,7 @@ returns c =
     let l = c .before .before .before .before .loop in
     let ds = c .before .before .before .before .before .before .args .t1 in
     let e : length (ds .entry) ≡ 1024 = search (needs, length-mapped) in
-    sym (searched-here ds _ (l .i) unread e (l .inv .1) (omega arith) (sym (c .before .same-target .ensures) ∙ c .if1 .taken))
+    find-said ds _ _ (sym (searched-here ds _ (l .i) unread e (l .inv .1) (omega arith) (sym (c .before .same-target .ensures) ∙ c .if1 .taken)))
 
 add-i : tie.Need-add-i Inv-loop μ-loop
 add-i c = search needs
@@ -55,7 +56,7 @@ returns-2 c =
     let l = c .before .loop in
     let ds = c .before .before .before .args .t1 in
     let e : length (ds .entry) ≡ 1024 = search (needs, length-mapped) in
-    sym (searched-all ds _ (l .i) unread e (l .inv .1) (omega arith))
+    find-said ds _ _ (sym (searched-all ds _ (l .i) unread e (l .inv .1) (omega arith)))
 
 pub find-spec : {M : Type 1} → statement M
 find-spec =

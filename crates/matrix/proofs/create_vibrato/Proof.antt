@@ -5,6 +5,7 @@ use lib.ListN.{length}
 use mathlib.Core.Path.{sym, _∙_}
 use borrow.Author.Tests.{not-true, not-false}
 use Rattle.matrix.proofs.Laws.{vibrato-refused, vibrato-none, vibrato-made}
+use Rattle.matrix.proofs.Replies.{vibrato-said}
 use borrow.Author.Needs.{needs}
 use Rattle.matrix.proofs.create_vibrato.Statement.{statement}
 use Rattle.matrix.proofs.create_vibrato.Tie as tie
@@ -15,7 +16,8 @@ is-finite-requires c κs = search needs
 returns : tie.Need-returns
 returns c =
     let a = c .before .before .before .args in
-    vibrato-refused (a .matrix) (a .lfos .now) (a .mod-wheel) (a .tuning) (a .amount) (sym (c .before .is-finite .ensures) ∙ not-true _ (c .if1 .taken))
+    vibrato-said (a .matrix) (a .lfos .now) (a .mod-wheel) (a .tuning) (a .amount) _
+    (vibrato-refused (a .matrix) (a .lfos .now) (a .mod-wheel) (a .tuning) (a .amount) (sym (c .before .is-finite .ensures) ∙ not-true _ (c .if1 .taken)))
 
 first-free-requires : tie.Need-first-free-requires
 first-free-requires c κs = search needs
@@ -23,7 +25,8 @@ first-free-requires c κs = search needs
 returns-2 : tie.Need-returns-2
 returns-2 c =
     let a = c .before .before .before .before .before .before .args in
-    vibrato-none (a .matrix) (a .lfos .now) (a .mod-wheel) (a .tuning) (a .amount) _ (sym (c .before .before .before .before .is-finite .ensures) ∙ not-false _ (c .before .before .before .if1 .left)) (c .before .first-free .ensures) (c .if2 .taken)
+    vibrato-said (a .matrix) (a .lfos .now) (a .mod-wheel) (a .tuning) (a .amount) _
+    (vibrato-none (a .matrix) (a .lfos .now) (a .mod-wheel) (a .tuning) (a .amount) _ (sym (c .before .before .before .before .is-finite .ensures) ∙ not-false _ (c .before .before .before .if1 .left)) (c .before .first-free .ensures) (c .if2 .taken))
 
 mul-lfo : tie.Need-mul-lfo
 mul-lfo c = search needs
@@ -38,7 +41,8 @@ returns-3 : tie.Need-returns-3
 returns-3 c =
     let a = c .before .before .before .before .before .before .before .before .args in
     let inside : c .before .before .before .first-free .result < length (a .lfos .now) = omega arith in
-    vibrato-made (a .matrix) (a .lfos .now) (a .mod-wheel) (a .tuning) (a .amount) _ _ (sym (c .before .before .before .before .before .before .is-finite .ensures) ∙ not-false _ (c .before .before .before .before .before .if1 .left)) (c .before .before .before .first-free .ensures) inside (c .vibrato .ensures)
+    vibrato-said (a .matrix) (a .lfos .now) (a .mod-wheel) (a .tuning) (a .amount) _
+    (vibrato-made (a .matrix) (a .lfos .now) (a .mod-wheel) (a .tuning) (a .amount) _ _ (sym (c .before .before .before .before .before .before .is-finite .ensures) ∙ not-false _ (c .before .before .before .before .before .if1 .left)) (c .before .before .before .first-free .ensures) inside (c .vibrato .ensures))
 
 pub create-vibrato-spec : {M : Type 1} → statement M
 create-vibrato-spec =

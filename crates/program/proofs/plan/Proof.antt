@@ -9,6 +9,7 @@ use Rattle.filled.specs.Filled.{noPlan}
 use Rattle.program.specs.declared.PlanRead.the-variants as W
 use Rattle.list.proofs.Elements.{getD-inside, length-mapped}
 use Rattle.program.specs.Readers.{planAt, planCount}
+use Rattle.program.proofs.Replies.{plan-said}
 use borrow.Author.Needs.{needs}
 use Rattle.program.proofs.plan.Statement.{statement}
 use Rattle.program.proofs.plan.Tie as tie
@@ -21,7 +22,7 @@ unfolding planAt planCount
 returns c =
     let a = c .before .before .args in
     let past : min (a .t1 .plans) slots ≤ a .i = omega (arith, c .before .held .ensures, c .if1 .taken) in
-    rw (le-ltb _ _ past)
+    plan-said (a .t1) (a .i) _ (rw (le-ltb _ _ past))
 
 mul-p : tie.Need-mul-p
 mul-p c = search needs
@@ -35,7 +36,7 @@ returns-2 c =
     let a = c .before .before .before .args in
     let inside : a .i < min (a .t1 .plans) slots = omega (arith, c .before .before .held .ensures, c .before .if1 .left) in
     let long : length (a .t1 .plan) ≡ slots = search (needs, length-mapped) in
-    rw (lt-ltb _ _ inside) (ap W.Plan (getD-inside (a .t1 .plan) (a .i) _ noPlan (omega arith)))
+    plan-said (a .t1) (a .i) _ (rw (lt-ltb _ _ inside) (ap W.Plan (getD-inside (a .t1 .plan) (a .i) _ noPlan (omega arith))))
 
 pub plan-spec : {M : Type 1} → statement M
 plan-spec = tie.close (tie.spec held-requires returns mul-p element-copy-out-p returns-2)

@@ -9,6 +9,7 @@ use Rattle.list.proofs.Elements.{length-mapped}
 use Rattle.filled.proofs.Stored.{stored-from, stored-end}
 use Rattle.program.specs.Readers.{planCount, rateOf}
 use Rattle.program.proofs.Rates.{Others, rate-here, others-next, no-rate}
+use Rattle.program.proofs.Replies.{rate-said}
 use Rattle.program.proofs.rate.Statement.{statement}
 use Rattle.program.proofs.rate.Tie as tie
 
@@ -47,7 +48,8 @@ returns c =
     let l = c .before .before .before .before .before .loop in
     let m = min (a .t1 .plans) slots in
     let from = stored-from (a .t1 .plan) m (l .inv .1) (l .i) _ (omega (arith, c .before .before .before .before .before .before .held .ensures)) in
-    c .rate-by .ensures ∙ sym (rate-here (take m (a .t1 .plan)) (a .dest) (l .i) _ from (l .inv .2) (c .before .if1 .taken))
+    rate-said (a .t1) (a .dest) _
+    (c .rate-by .ensures ∙ sym (rate-here (take m (a .t1 .plan)) (a .dest) (l .i) _ from (l .inv .2) (c .before .if1 .taken)))
 
 add-i : tie.Need-add-i Inv-loop μ-loop
 add-i c = search needs
@@ -70,7 +72,7 @@ returns-2 c =
     let l = c .before .loop in
     let m = min (a .t1 .plans) slots in
     let end = stored-end (a .t1 .plan) m (l .inv .1) (l .i) (omega (arith, c .before .before .held .ensures)) in
-    sym (no-rate (take m (a .t1 .plan)) (a .dest) (l .i) end (l .inv .2))
+    rate-said (a .t1) (a .dest) _ (sym (no-rate (take m (a .t1 .plan)) (a .dest) (l .i) end (l .inv .2)))
 
 pub rate-spec : {M : Type 1} → statement M
 rate-spec =
