@@ -1,7 +1,7 @@
 #!/usr/bin/env python3
 """edits.py [FOLDER]: the editor's calls (drag, vibrato, velocity to amp, the polarity and the depth of a drag) as the Rust answers them.
 
-Writes edits.txt and HOW.txt into FOLDER (crates/edits/data of the repository), asking target/release/edits. Then holds the list to
+Writes edits.txt and HOW.txt into FOLDER (crates/replay_edits/data of the repository), asking target/release/edits. Then holds the list to
 a plain copy of the calls in Python, and to copies with one mistake each: how many lines every mistake changes. Exit 1 if
 the plain copy differs anywhere or a mistake changes no line. The same files come out each time.
 
@@ -314,7 +314,7 @@ vibrato is one way. a vibrato has no aux. the mod wheel is inverted. velocity to
 
 
 def main():
-    folder = sys.argv[1] if len(sys.argv) > 1 else os.path.join(HERE, "..", "crates", "edits", "data")
+    folder = sys.argv[1] if len(sys.argv) > 1 else os.path.join(HERE, "..", "crates", "replay_edits", "data")
     os.makedirs(folder, exist_ok=True)
     asked = "\n".join(" ".join("%08X" % w for w in q) for q in questions()) + "\n"
     text = subprocess.run([EDITS], input=asked.encode(), stdout=subprocess.PIPE, check=True).stdout.decode()

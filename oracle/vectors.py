@@ -1,7 +1,7 @@
 #!/usr/bin/env python3
 """vectors.py [FOLDER]: the lookup, a slew step and a slew's rate as the Rust computes them, as text files.
 
-Writes tables.txt, lookup.txt, slew.txt, rate.txt and HOW.txt into FOLDER (crates/leaves/data of the
+Writes tables.txt, lookup.txt, slew.txt, rate.txt and HOW.txt into FOLDER (crates/replay_leaves/data of the
 repository), asking target/release/vectors. Then holds each file to a plain copy of the formula in
 Python, and to copies with one mistake each: how many lines every mistake changes. Exit 1 if the plain
 copy differs anywhere or a mistake changes no line. The same files come out each time.
@@ -225,7 +225,7 @@ def describe(path, own):
 
 
 def main():
-    folder = sys.argv[1] if len(sys.argv) > 1 else os.path.join(HERE, "..", "crates", "leaves", "data")
+    folder = sys.argv[1] if len(sys.argv) > 1 else os.path.join(HERE, "..", "crates", "replay_leaves", "data")
     os.makedirs(folder, exist_ok=True)
     r = random.Random(SEED)
     ts = tables(r)

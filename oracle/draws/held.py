@@ -1,5 +1,5 @@
 #!/usr/bin/env python3
-"""held.py [FILE]: holds the list of draws (crates/leaves/data/draw.txt, or FILE) to the Rust.
+"""held.py [FILE]: holds the list of draws (crates/replay_leaves/data/draw.txt, or FILE) to the Rust.
 
 For each line the oracle's draw state is set to STATE and a note is sounded with one Random source; the state
 and the number drawn afterwards must be NEXT and DRAW. Needs target/release/oracle. Exit 1 where a line differs.
@@ -10,7 +10,7 @@ import subprocess
 import sys
 
 HERE = os.path.dirname(os.path.abspath(__file__))
-path = sys.argv[1] if len(sys.argv) > 1 else os.path.join(HERE, "../../crates/leaves/data/draw.txt")
+path = sys.argv[1] if len(sys.argv) > 1 else os.path.join(HERE, "../../crates/replay_leaves/data/draw.txt")
 lines = [line.split() for line in open(path)]
 session = ["config 42800000 32 1", "source r random v u", "engine"]
 for state, _, _, _, _ in lines:

@@ -3,6 +3,7 @@ use config::Config;
 use config::FRAMES;
 use config::SLOTS;
 use config::VOICES;
+use curve_table::Curve;
 use matrix::Edited;
 use state::Aim;
 use state::Bound;
@@ -19,7 +20,6 @@ use state::Slot;
 use state::Sources;
 use state::Target;
 use state::Wiring;
-use table::Curve;
 
 // How many routes into how many destinations, which are at audio rate or at control rate; whether routes have curves, slews and an
 // aux, and destinations feed; voices there are, and voices that sound; frames of a block, and buffers that the 64 signals share; which

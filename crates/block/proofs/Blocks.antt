@@ -22,13 +22,13 @@ use Rattle.model.specs.States.{withMarks, withDraw, withPhase, withBlock, putSt
 use Rattle.model.specs.Chunks.{chunkTotal, chunkOf}
 use Rattle.model.specs.Process.{Drawn, valuesOf, loaded, drawn, putDrawn, glided, chunkStep, chunkSteps, closed, blockOf, noBlock, run}
 use Rattle.model.specs.Need.{valuesRows}
-use Rattle.chunk.proofs.Chunks.{inside}
-use Rattle.opening.specs.declared.Lengths.{Lengths}
-use Rattle.opening.specs.Codes.{countsOf, codeBy}
-use Rattle.opening.specs.Marks.{loadIn, loadIf}
-use Rattle.opening.specs.Draws.{drawnRoutes}
-use Rattle.opening.proofs.Codes.{accepted}
-use Rattle.opening.proofs.Worlds.{loaded-by-parts, drawn-by-parts}
+use Rattle.block_chunks.proofs.Chunks.{inside}
+use Rattle.block_opening.specs.declared.Lengths.{Lengths}
+use Rattle.block_opening.specs.Codes.{countsOf, codeBy}
+use Rattle.block_opening.specs.Marks.{loadIn, loadIf}
+use Rattle.block_opening.specs.Draws.{drawnRoutes}
+use Rattle.block_opening.proofs.Codes.{accepted}
+use Rattle.block_opening.proofs.Worlds.{loaded-by-parts, drawn-by-parts}
 use Rattle.block.specs.Room.{Room, Keeps}
 use Rattle.block.specs.Scenes.{drawnOf}
 use Rattle.block.specs.Worlds.{loadedWorld, drawnWorld, closedWorld, routelessWorld, steppedWorld, routedWorld, runWorld}

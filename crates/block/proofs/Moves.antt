@@ -20,13 +20,13 @@ use Rattle.model.specs.Process.{rowsOfChunk, glided, ticked, rowed, sounded, sn
 use Rattle.model.specs.States.{withVelocity, withKey, withPrimed, putValues}
 use Rattle.model.specs.Tick.{turns, tickOf}
 use Rattle.model.specs.World.{World, worldOf, isVelocity, isKey}
-use Rattle.opening.specs.Marks.{movedIf}
-use Rattle.sound.specs.declared.Sweeping.{Sweeping}
-use Rattle.sound.specs.declared.Work.{Work}
-use Rattle.sound.specs.Passes.{ReadyBy, PreparedBy, Only}
-use Rattle.sound.specs.Rows.{sounds}
-use Rattle.sound.specs.Work.{Sized, audioRoom, Installed, workEnv}
-use Rattle.sound.proofs.Sweeps.{ready-sooner, prepared-sooner}
+use Rattle.block_opening.specs.Marks.{movedIf}
+use Rattle.audio_rows.specs.declared.Sweeping.{Sweeping}
+use Rattle.audio_rows.specs.declared.Work.{Work}
+use Rattle.audio_rows.specs.Passes.{ReadyBy, PreparedBy, Only}
+use Rattle.audio_rows.specs.Rows.{sounds}
+use Rattle.audio_rows.specs.Work.{Sized, audioRoom, Installed, workEnv}
+use Rattle.audio_rows.proofs.Sweeps.{ready-sooner, prepared-sooner}
 use Rattle.block.specs.declared.Glides.{Glides}
 use Rattle.block.specs.declared.Moving.{Moving}
 use Rattle.block.specs.Moves.{movingOf, movedBy, glidesOf, wholeOf}

@@ -25,18 +25,18 @@ use Rattle.model.specs.Layout.{planSize}
 use Rattle.model.specs.Tick.{offPhase, tickOf}
 use Rattle.model.specs.Audio.{Sounds, audioOf}
 use Rattle.model.specs.Process.{valuesOf, envOf, glided, ticked, rowed, putSounds, sounded, snapOf, afterTick, chunkStep, closed}
-use Rattle.input.specs.declared.Scene.{Scene}
-use Rattle.input.specs.Scene.{envOf as sceneEnv}
-use Rattle.sum.specs.Job.{IsScene}
-use Rattle.tick.specs.Turn.{Given, IsTick}
-use Rattle.slewing.specs.Seen.{Fits}
-use Rattle.sound.specs.declared.Work.{Work}
-use Rattle.sound.specs.Rows.{sounds}
-use Rattle.sound.specs.Work.{Sized, Installed, workEnv, audioRoom}
-use Rattle.opening.specs.Marks.{movedIf}
-use Rattle.opening.specs.Rows.{chunkRows}
-use Rattle.opening.proofs.Rows.{plans-fit}
-use Rattle.opening.proofs.Worlds.{rowed-by-parts, glided-by-parts}
+use Rattle.lane_input.specs.declared.Scene.{Scene}
+use Rattle.lane_input.specs.Scene.{envOf as sceneEnv}
+use Rattle.plan_sum.specs.Job.{IsScene}
+use Rattle.control_tick.specs.Turn.{Given, IsTick}
+use Rattle.plan_slews.specs.Seen.{Fits}
+use Rattle.audio_rows.specs.declared.Work.{Work}
+use Rattle.audio_rows.specs.Rows.{sounds}
+use Rattle.audio_rows.specs.Work.{Sized, Installed, workEnv, audioRoom}
+use Rattle.block_opening.specs.Marks.{movedIf}
+use Rattle.block_opening.specs.Rows.{chunkRows}
+use Rattle.block_opening.proofs.Rows.{plans-fit}
+use Rattle.block_opening.proofs.Worlds.{rowed-by-parts, glided-by-parts}
 use Rattle.block.specs.Room.{Room, Keeps, audioSize}
 use Rattle.block.specs.Scenes.{sceneOf, workOf}
 

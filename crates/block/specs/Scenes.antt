@@ -11,8 +11,8 @@ use lib.Ieee.{Float}
 use mathlib.Core.List.{List}
 use Rattle.model.specs.Tick.{offPhase}
 use Rattle.model.specs.Process.{Drawn}
-use Rattle.input.specs.declared.Scene.{Scene}
-use Rattle.sound.specs.declared.Work.{Work}
+use Rattle.lane_input.specs.declared.Scene.{Scene}
+use Rattle.audio_rows.specs.declared.Work.{Work}
 
 -- the scene at the start of a chunk
 abbrev pub sceneOf : State → Chunk → Bool → Scene

@@ -16,28 +16,28 @@ ghost use Rattle.model.specs.Chunks.{chunkTotal};
 ghost use Rattle.model.specs.States.{withVelocity, withKey};
 ghost use Rattle.model.specs.World.{worldOf, isVelocity, isKey};
 ghost use Rattle.model.specs.Process.{valuesOf, glided, ticked, rowed, sounded, chunkStep, chunkSteps, blockOf, noBlock};
-ghost use Rattle.input.specs.Scene.{envOf};
+ghost use Rattle.lane_input.specs.Scene.{envOf};
 ghost use Rattle.voice.specs.Notes.{advanced};
 ghost use Rattle.state.specs.declared.Signals.{Signals};
-ghost use Rattle.sound.specs.Passes.{ReadyBy, PreparedBy, Only};
-ghost use Rattle.opening.specs.Marks.{movedIf};
-ghost use Rattle.opening.specs.Codes.{countsOf, codeBy};
-ghost use Rattle.opening.specs.Draws.{drawnRoutes};
+ghost use Rattle.audio_rows.specs.Passes.{ReadyBy, PreparedBy, Only};
+ghost use Rattle.block_opening.specs.Marks.{movedIf};
+ghost use Rattle.block_opening.specs.Codes.{countsOf, codeBy};
+ghost use Rattle.block_opening.specs.Draws.{drawnRoutes};
 ghost use Rattle.block.specs.Room.{Room, Keeps, audioSize};
 ghost use Rattle.block.specs.Worlds.{loadedWorld, drawnWorld, closedWorld, routelessWorld, routedWorld, runWorld};
 ghost use Rattle.block.specs.Scenes.{sceneOf, workOf, drawnOf};
 ghost use Rattle.block.specs.Moves.{movingOf, movedBy, glidesOf, wholeOf};
+use audio_rows::Sweeping;
+use audio_rows::Work;
+use block_opening::Counts;
+use block_opening::Lengths;
+use block_opening::NoteValue;
 use config::FRAMES;
 use config::PERIOD;
 use config::SLOTS;
 use config::SOURCES;
 use config::VOICES;
-use input::Scene;
-use opening::Counts;
-use opening::Lengths;
-use opening::NoteValue;
-use sound::Sweeping;
-use sound::Work;
+use lane_input::Scene;
 use state::Block;
 use state::Chunk;
 use state::Signals;
@@ -102,11 +102,11 @@ fn tick_values(
     let program = state.program;
     let plan = program.plan;
     let routes = program.route;
-    let plans = opening::at_most(program.plans, SLOTS);
-    let control = opening::at_most(program.control, plans);
+    let plans = block_opening::at_most(program.plans, SLOTS);
+    let control = block_opening::at_most(program.control, plans);
     let chunks = config::most_chunks(config.max_frames);
     let scene = scene_of(state, chunk, snap);
-    tick::tick(
+    control_tick::tick(
         values,
         plan,
         control,
@@ -168,11 +168,11 @@ pub fn rowed(values: &mut [f32], state: State, i: usize)
     let config = state.config;
     let program = state.program;
     let plan = program.plan;
-    let plans = opening::at_most(program.plans, SLOTS);
-    let control = opening::at_most(program.control, plans);
+    let plans = block_opening::at_most(program.plans, SLOTS);
+    let control = block_opening::at_most(program.control, plans);
     let stride = config::lane_stride(config.voices);
     let chunks = config::most_chunks(config.max_frames);
-    opening::rows_of_chunk(values, plan, control, i, stride, chunks);
+    block_opening::rows_of_chunk(values, plan, control, i, stride, chunks);
 }
 
 // what the audio of a chunk is worked out from
@@ -186,9 +186,9 @@ fn work_of(state: State, chunk: Chunk, snap: bool, signals: Signals) -> Work
     let routes = program.route;
     let scene = scene_of(state, chunk, snap);
     let chunks = config::most_chunks(config.max_frames);
-    let frames = opening::at_most(config.max_frames, FRAMES);
-    let plans = opening::at_most(program.plans, SLOTS);
-    let control = opening::at_most(program.control, plans);
+    let frames = block_opening::at_most(config.max_frames, FRAMES);
+    let plans = block_opening::at_most(program.plans, SLOTS);
+    let control = block_opening::at_most(program.control, plans);
     Work {
         plan,
         routes,
@@ -219,7 +219,7 @@ pub fn sounded(
     ensures { λ _. ⌜ worldOf state (now (held .entry)) (now (globals .entry)) (now (bases .entry)) (now (values .exit)) (now (audio .exit)) (now (tables .entry)) ≡ sounded (now (samples .entry)) signals chunk snap (worldOf state (now (held .entry)) (now (globals .entry)) (now (bases .entry)) (now (values .entry)) (now (audio .entry)) (now (tables .entry))) ⌝ }
 {
     let work = work_of(state, chunk, snap, signals);
-    sound::audio_plans(
+    audio_rows::audio_plans(
         values,
         audio,
         work,
@@ -242,11 +242,11 @@ pub fn glided(held: &mut [f32], state: State, frames: usize) -> State
     let velocity = state.velocity;
     let key = state.key;
     let stride = config::lane_stride(config.voices);
-    let sources = opening::at_most(state.sources, SOURCES);
-    let n = opening::at_most(config.voices, VOICES);
+    let sources = block_opening::at_most(state.sources, SOURCES);
+    let n = block_opening::at_most(config.voices, VOICES);
     let velocity_next = velocity.advance(frames);
     let key_next = key.advance(frames);
-    opening::moved_held(
+    block_opening::moved_held(
         held,
         mark,
         NoteValue::Velocity,
@@ -256,7 +256,7 @@ pub fn glided(held: &mut [f32], state: State, frames: usize) -> State
         velocity,
         velocity_next,
     );
-    opening::moved_held(
+    block_opening::moved_held(
         held,
         mark,
         NoteValue::Key,
@@ -346,11 +346,11 @@ fn each_step(
     requires { ⌜ Room state (length (now held)) (length (now values)) (length (now audio)) × (block .end ≤ frameCount state) ⌝ }
     ensures { λ r. ⌜ worldOf r (now (held .exit)) (now (globals .entry)) (now (bases .entry)) (now (values .exit)) (now (audio .exit)) (now (tables .entry)) ≡ chunkSteps (now (samples .entry)) signals block (chunkTotal block) (worldOf state (now (held .entry)) (now (globals .entry)) (now (bases .entry)) (now (values .entry)) (now (audio .entry)) (now (tables .entry))) ⌝ }
 {
-    let n = chunk::total(block);
+    let n = block_chunks::total(block);
     let mut next = state;
     let mut i = 0usize;
     while i < n {
-        let c = chunk::of(block, i);
+        let c = block_chunks::of(block, i);
         let after = chunk_step(
             next,
             i,
@@ -406,8 +406,8 @@ fn glides_of(state: State) -> Glides
     let config = state.config;
     let mark = state.mark;
     let stride = config::lane_stride(config.voices);
-    let sources = opening::at_most(state.sources, SOURCES);
-    let voices = opening::at_most(config.voices, VOICES);
+    let sources = block_opening::at_most(state.sources, SOURCES);
+    let voices = block_opening::at_most(config.voices, VOICES);
     Glides {
         mark,
         stride,
@@ -449,7 +449,7 @@ fn glide(moving: Moving, glides: Glides, chunk: Chunk, held: &mut [f32]) -> Movi
     let key = moving.key;
     let velocity_next = velocity.advance(chunk.len);
     let key_next = key.advance(chunk.len);
-    opening::moved_held(
+    block_opening::moved_held(
         held,
         mark,
         NoteValue::Velocity,
@@ -459,7 +459,7 @@ fn glide(moving: Moving, glides: Glides, chunk: Chunk, held: &mut [f32]) -> Movi
         velocity,
         velocity_next,
     );
-    opening::moved_held(
+    block_opening::moved_held(
         held,
         mark,
         NoteValue::Key,
@@ -490,13 +490,13 @@ fn swept_steps(
     requires { ⌜ (strideOf state * engineSources state ≤ length (now held)) × (block .start ≤ block .end) × ReadyBy (wholeOf block) (length (now audio)) sweeping (now samples) × Only sweeping ⌝ }
     ensures { λ r. ⌜ ((signals : Signals) (v t : List Float) → PreparedBy (workOf state (wholeOf block) false signals) (wholeOf block) sweeping (now (samples .entry)) → worldOf r (now (held .exit)) (now (globals .entry)) (now (bases .entry)) v (now (audio .exit)) t ≡ chunkSteps (now (samples .entry)) signals block (chunkTotal block) (worldOf state (now (held .entry)) (now (globals .entry)) (now (bases .entry)) v (now (audio .entry)) t)) ⌝ }
 {
-    let n = chunk::total(block);
+    let n = block_chunks::total(block);
     let glides = glides_of(state);
     let mut moving = moving_of(state);
     let mut i = 0usize;
     while i < n {
-        let c = chunk::of(block, i);
-        sound::sweep_all(audio, sweeping, c, globals, bases, samples);
+        let c = block_chunks::of(block, i);
+        audio_rows::sweep_all(audio, sweeping, c, globals, bases, samples);
         let after = glide(moving, glides, c, held);
         moving = after;
         i += 1;
@@ -524,7 +524,7 @@ fn sweeping_of(state: State, block: Block, signals: Signals, samples: &[f32]) ->
 {
     let whole = whole_of(block);
     let work = work_of(state, whole, false, signals);
-    sound::sweeping_of(work, whole, samples)
+    audio_rows::sweeping_of(work, whole, samples)
 }
 
 // The steps of a block's chunks.
@@ -544,7 +544,7 @@ pub fn chunk_steps(
     ensures { λ r. ⌜ worldOf r (now (held .exit)) (now (globals .entry)) (now (bases .entry)) (now (values .exit)) (now (audio .exit)) (now (tables .entry)) ≡ chunkSteps (now (samples .entry)) signals block (chunkTotal block) (worldOf state (now (held .entry)) (now (globals .entry)) (now (bases .entry)) (now (values .entry)) (now (audio .entry)) (now (tables .entry))) ⌝ }
 {
     let sweeping = sweeping_of(state, block, signals, samples);
-    if sound::only_swept(sweeping) {
+    if audio_rows::only_swept(sweeping) {
         return swept_steps(state, block, sweeping, held, globals, bases, audio, samples);
     }
     each_step(
@@ -571,9 +571,9 @@ pub fn loaded(globals: &mut [f32], state: State)
     let config = state.config;
     let mark = state.mark;
     let voices = state.voices;
-    let n = opening::at_most(state.sources, SOURCES);
-    let x = opening::load_value(voices, config.voices, state.limit);
-    opening::set_load(globals, mark, n, x);
+    let n = block_opening::at_most(state.sources, SOURCES);
+    let x = block_opening::load_value(voices, config.voices, state.limit);
+    block_opening::set_load(globals, mark, n, x);
 }
 
 // the random inputs of the routes, and the state of the draws after them
@@ -586,12 +586,12 @@ fn drawn_after(values: &mut [f32], state: State) -> u64
     let route = program.route;
     let marks = state.marks;
     let renoted = marks.renoted;
-    let routes = opening::at_most(program.routes, SLOTS);
-    let plans = opening::at_most(program.plans, SLOTS);
-    let n = opening::at_most(config.voices, VOICES);
+    let routes = block_opening::at_most(program.routes, SLOTS);
+    let plans = block_opening::at_most(program.plans, SLOTS);
+    let n = block_opening::at_most(config.voices, VOICES);
     let stride = config::lane_stride(config.voices);
     let chunks = config::most_chunks(config.max_frames);
-    opening::draw_routes(
+    block_opening::draw_routes(
         values,
         route,
         routes,
@@ -687,11 +687,11 @@ pub fn routeless(held: &mut [f32], state: State, len: usize) -> State
     let velocity = state.velocity;
     let key = state.key;
     let stride = config::lane_stride(config.voices);
-    let sources = opening::at_most(state.sources, SOURCES);
-    let n = opening::at_most(config.voices, VOICES);
+    let sources = block_opening::at_most(state.sources, SOURCES);
+    let n = block_opening::at_most(config.voices, VOICES);
     let velocity_next = velocity.advance(len);
     let key_next = key.advance(len);
-    opening::moved_held(
+    block_opening::moved_held(
         held,
         mark,
         NoteValue::Velocity,
@@ -701,7 +701,7 @@ pub fn routeless(held: &mut [f32], state: State, len: usize) -> State
         velocity,
         velocity_next,
     );
-    opening::moved_held(
+    block_opening::moved_held(
         held,
         mark,
         NoteValue::Key,
@@ -800,5 +800,5 @@ pub fn code(state: State, lent: Lengths, signals: Signals, end: usize) -> u8
         routes: program.routes,
         tabled: program.tabled,
     };
-    opening::process_code(counts, lent, signals, end)
+    block_opening::process_code(counts, lent, signals, end)
 }

@@ -5,7 +5,7 @@ mod digits;
 
 use digits::Seen;
 use libc::STDIN_FILENO;
-use turn::Session;
+use trace_session::Session;
 
 // none where the input is over, or no more of it matters, else one less
 fn fewer(left: u64, done: bool, other: bool) -> u64
@@ -28,7 +28,7 @@ fn asked() -> u64 {
     let mut left = 4611686018427387904u64;
     while 0 < left {
         let n = io::read_full(STDIN_FILENO, &mut buffer);
-        let next = digits::after_all(seen, session::part(&buffer, 0, n));
+        let next = digits::after_all(seen, trace_input_session::part(&buffer, 0, n));
         seen = next;
         left = fewer(left, n < 65536, digits::is_other(seen));
     }
@@ -62,13 +62,13 @@ fn played(
     audio: &mut [f32],
     pool: &mut [f32],
 ) -> Session {
-    let waiting = turn::waiting(s);
-    turn::answered(
+    let waiting = trace_session::waiting(s);
+    trace_session::answered(
         s,
         waiting,
         0,
         true,
-        session::part(text, at, end),
+        trace_input_session::part(text, at, end),
         out,
         book,
         desk,
@@ -88,22 +88,22 @@ fn play_lines(
     audio: &mut [f32],
     pool: &mut [f32],
 ) {
-    let mut s = turn::start();
+    let mut s = trace_session::start();
     let mut at = 0usize;
     while at < text.len() {
-        let end = lines::line_end(text, at, text.len());
+        let end = trace_input_lines::line_end(text, at, text.len());
         let next = played(s, text, at, end, out, book, desk, values, audio, pool);
         s = next;
         at = past(at, end, text.len());
     }
-    show::flush(out, turn::waiting(s));
+    trace_output_show::flush(out, trace_session::waiting(s));
 }
 
 // Plays a case, with memories that are more than it needs.
 fn play_case(text: &[u8]) {
     let mut out = [0u8; 1024];
-    let mut book = [0usize; play::BOOK];
-    let mut desk = [0.0f32; play::DESK];
+    let mut book = [0usize; trace_dispatch::BOOK];
+    let mut desk = [0.0f32; trace_dispatch::DESK];
     let mut values = [0.0f32; 4096];
     let mut audio = [0.0f32; 110000];
     let mut pool = [0.0f32; 4096];

@@ -6,7 +6,7 @@ use native.Mathlib.Omega.{arith}
 use lib.Dec.{ltb}
 use lib.Ieee.{Float, le}
 use borrow.Author.Tests.{ltb-false}
-use Rattle.judge.specs.Judge.{judged}
+use Rattle.refusal.specs.Judge.{judged}
 use Rattle.number.specs.Number.{zero32, finite}
 use Rattle.config.specs.Sizes.{mostFrames, mostVoices}
 use Rattle.config.specs.Configuration.{configCode}

@@ -6,7 +6,7 @@ use Prim.Native.Nat.{ℕ}
 use lib.Dec.{ltb}
 use lib.IntN.{pos}
 use lib.Ieee.{Float, nan, inf, fin, le}
-use Rattle.judge.specs.Judge.{Row, _when_, judged}
+use Rattle.refusal.specs.Judge.{Row, _when_, judged}
 use Rattle.number.specs.Number.{zero32, one32, finite}
 use Rattle.config.specs.Sizes.{mostFrames, mostVoices}
 

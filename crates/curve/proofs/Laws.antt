@@ -6,10 +6,10 @@ use lib.ListN.{length, getD}
 use lib.Ieee.{Float, nan}
 use borrow.Author.Tests.{eq-eqb, ne-eqb}
 use Rattle.number.specs.Number.{zero32}
-use Rattle.table.specs.Curve.{curveCode, secondsOf}
-use Rattle.table.specs.declared.Curve.{Curve}
-use Rattle.table.specs.Table.{points, lookupOf, tableCode, diagonalAt}
-use Rattle.table.proofs.Laws.{length-tabulated, tabulated-at}
+use Rattle.curve_table.specs.Curve.{curveCode, secondsOf}
+use Rattle.curve_table.specs.declared.Curve.{Curve}
+use Rattle.curve_table.specs.Table.{points, lookupOf, tableCode, diagonalAt}
+use Rattle.curve_table.proofs.Laws.{length-tabulated, tabulated-at}
 use Rattle.curve.specs.CurveCalls.{lookupCall, slewCall, diagonalTable}
 
 -- a table that is accepted is looked up; one that is refused gives its row and 0

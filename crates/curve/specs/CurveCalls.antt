@@ -4,9 +4,9 @@ use mathlib.Core.List.{List}
 use lib.Dec.{eqb}
 use lib.Ieee.{Float}
 use Rattle.number.specs.Number.{zero32}
-use Rattle.table.specs.Curve.{curveCode, secondsOf}
-use Rattle.table.specs.declared.Curve.{Curve}
-use Rattle.table.specs.Table.{lookupOf, tableCode, tabulated, diagonalAt}
+use Rattle.curve_table.specs.Curve.{curveCode, secondsOf}
+use Rattle.curve_table.specs.declared.Curve.{Curve}
+use Rattle.curve_table.specs.Table.{lookupOf, tableCode, tabulated, diagonalAt}
 use Rattle.curve.specs.declared.Looked.{Looked}
 use Rattle.curve.specs.declared.Slewed.{Slewed}
 

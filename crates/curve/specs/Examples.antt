@@ -4,11 +4,11 @@ use mathlib.Core.Bool.{true, false}
 use mathlib.Core.List.{[], _∷_}
 use lib.IntN.{pos}
 use lib.Ieee.{nan, inf, fin, neg, isNan, lt, le, add, sub, mul, div, ofInt, toUnsigned}
-use Rattle.judge.specs.Judge.{judged}
+use Rattle.refusal.specs.Judge.{judged}
 use Rattle.number.specs.Number.{zero32, half32, one32, finite, max32, clampTo}
-use Rattle.table.specs.Table.{position, cellOf, partOf, lookupOf, allowed, allAllowed, tableCode}
-use Rattle.table.specs.Curve.{secondsOf, secondsFinite, curveCode}
-use Rattle.table.specs.declared.Curve.the-variants as C
+use Rattle.curve_table.specs.Table.{position, cellOf, partOf, lookupOf, allowed, allAllowed, tableCode}
+use Rattle.curve_table.specs.Curve.{secondsOf, secondsFinite, curveCode}
+use Rattle.curve_table.specs.declared.Curve.the-variants as C
 use Rattle.curve.specs.CurveCalls.{lookupCall, slewCall, diagonalTable}
 
 -- the diagonal is accepted, and 0.5 and a NaN are looked up in it

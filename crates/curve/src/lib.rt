@@ -1,10 +1,10 @@
-// Curves: the public calls on tables. The definitions that contracts cite are in specs/CurveCalls.antt and in the crate table.
+// Curves: the public calls on tables. The definitions that contracts cite are in specs/CurveCalls.antt and in the crate curve_table.
 ghost use mathlib.Core.Path.{_≡_};
-ghost use Rattle.table.specs.Curve.{isLinear};
+ghost use Rattle.curve_table.specs.Curve.{isLinear};
 ghost use Rattle.curve.specs.CurveCalls.{lookupCall, slewCall, diagonalTable};
-use table::Curve;
-use table::POINTS;
-use table::Seconds;
+use curve_table::Curve;
+use curve_table::POINTS;
+use curve_table::Seconds;
 
 // a number by which the call is refused, or 0 and the table's value
 pub struct Looked {
@@ -22,13 +22,13 @@ pub struct Slewed {
 pub fn lookup(table: &[f32], x: f32) -> Looked
     ensures { λ r. ⌜ r ≡ lookupCall (now (table .entry)) x ⌝ }
 {
-    let code = table::table_code(table);
+    let code = curve_table::table_code(table);
     if code != 0 {
         return Looked { code, value: 0.0 };
     }
     Looked {
         code: 0,
-        value: table::lookup(table, x),
+        value: curve_table::lookup(table, x),
     }
 }
 
@@ -36,14 +36,14 @@ pub fn lookup(table: &[f32], x: f32) -> Looked
 pub fn is_linear(curve: Curve) -> bool
     ensures { λ r. ⌜ r ≡ isLinear curve ⌝ }
 {
-    table::is_linear(curve)
+    curve_table::is_linear(curve)
 }
 
 // a curve's rise and fall in seconds, below 0 taken as 0; a curve that is refused gives 0 for both
 pub fn slew(curve: Curve) -> Slewed
     ensures { λ r. ⌜ r ≡ slewCall curve ⌝ }
 {
-    let code = table::curve_code(curve);
+    let code = curve_table::curve_code(curve);
     if code != 0 {
         let none = Seconds {
             rise: 0.0,
@@ -54,7 +54,7 @@ pub fn slew(curve: Curve) -> Slewed
             seconds: none,
         };
     }
-    let seconds = table::seconds_of(curve);
+    let seconds = curve_table::seconds_of(curve);
     Slewed { code: 0, seconds }
 }
 

@@ -11,7 +11,7 @@ use lib.Dec.{leb}
 use lib.Ieee.{Float, nan, inf, fin, lt, isNan}
 use lib.ListN.{length}
 use lib.Seq.{take-suc-set}
-use Rattle.judge.specs.Judge.{judged}
+use Rattle.refusal.specs.Judge.{judged}
 use Rattle.config.specs.Sizes.{mostDestinations}
 use Rattle.state.specs.declared.Dest.{Dest}
 use Rattle.state.specs.declared.Destinations.{Destinations}

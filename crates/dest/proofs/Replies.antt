@@ -4,7 +4,7 @@ use mathlib.Core.Bool.{Bool, true, false, cond}
 use mathlib.Core.List.{List, [], _∷_}
 use Prim.Native.Nat.{ℕ, zero, suc}
 use lib.ListN.{take, drop}
-use Rattle.judge.specs.Judge.{judged}
+use Rattle.refusal.specs.Judge.{judged}
 use Rattle.reply.specs.Reply.{Reply, accepts, byRows}
 use Rattle.state.specs.Registry.{sameTarget}
 use Rattle.state.specs.declared.Target.{Target}

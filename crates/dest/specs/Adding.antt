@@ -7,7 +7,7 @@ use lib.Dec.{eqb, leb}
 use lib.IntN.{pos}
 use lib.ListN.{set}
 use lib.Ieee.{Float, nan, inf, fin, lt, isNan}
-use Rattle.judge.specs.Judge.{Row, _when_, judged, numbered, ascends}
+use Rattle.refusal.specs.Judge.{Row, _when_, judged, numbered, ascends}
 use Rattle.number.specs.Number.{zero32, one32}
 use Rattle.config.specs.Sizes.{slots, mostDestinations}
 use Rattle.state.specs.declared.Target.{Target}

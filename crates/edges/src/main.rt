@@ -1,19 +1,19 @@
 // Row 6 at its edges for the calls that no session reaches: a matrix that is loaded or sorted, a program that is installed, a curve's seconds.
 // Prints a line for each call, with the number that it hands back.
 use config::Config;
+use curve_table::Curve;
+use curve_table::POINTS;
 use engine::Engine;
 use libc::STDOUT_FILENO;
 use matrix::NoteSlot;
 use matrix::SortBy;
+use slots_tables::TABLES;
 use state::Aim;
 use state::Matrix;
 use state::Pick;
 use state::Polarity;
 use state::Program;
 use state::Slot;
-use table::Curve;
-use table::POINTS;
-use tables::TABLES;
 
 // the largest number, the least that is beyond 16, 16, and what is not finite
 const LARGEST: u32 = 0x7F7F_FFFF;
@@ -45,21 +45,21 @@ fn last_slot(amount: u32, output: u32, rise: u32, fall: u32) -> Matrix {
     let aux = Pick::Nothing;
     let source_curve = Curve::Linear;
     let aux_curve = Curve::Table {
-        rise: text::of_bits(rise),
-        fall: text::of_bits(fall),
+        rise: hex::of_bits(rise),
+        fall: hex::of_bits(fall),
     };
     let polarity = Polarity::Unipolar;
     let destination = Aim::Nothing;
     let slot = Slot {
         source,
         source_curve,
-        amount: text::of_bits(amount),
+        amount: hex::of_bits(amount),
         polarity,
         destination,
         aux,
         aux_invert: false,
         aux_curve,
-        output: text::of_bits(output),
+        output: hex::of_bits(output),
         bypass: true,
     };
     let mut next = matrix::new();
@@ -117,8 +117,8 @@ fn put(what: &[u8], at: usize, bits: u32, len: usize) {
     if TABLES <= at {
         return;
     }
-    tables[at] = text::of_bits(bits);
-    others[at] = text::of_bits(bits);
+    tables[at] = hex::of_bits(bits);
+    others[at] = hex::of_bits(bits);
     if TABLES < len {
         return;
     }
@@ -152,8 +152,8 @@ fn config(voices: usize) -> Config {
 fn program(voices: usize, amount: u32, output: u32) -> Program {
     let made = program::empty(config(voices));
     let mut next = made.program;
-    next.gains.amount[63] = text::of_bits(amount);
-    next.gains.output[63] = text::of_bits(output);
+    next.gains.amount[63] = hex::of_bits(amount);
+    next.gains.output[63] = hex::of_bits(output);
     next
 }
 
@@ -189,8 +189,8 @@ fn programs() {
 
 fn slewed(rise: u32, fall: u32) -> u8 {
     let made = curve::slew(Curve::Table {
-        rise: text::of_bits(rise),
-        fall: text::of_bits(fall),
+        rise: hex::of_bits(rise),
+        fall: hex::of_bits(fall),
     });
     made.code
 }

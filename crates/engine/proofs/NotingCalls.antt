@@ -10,7 +10,7 @@ use lib.Dec.{leb, ltb}
 use lib.ListN.{length}
 use lib.Ieee.{Float}
 use Rattle.config.specs.Sizes.{mostVoices}
-use Rattle.judge.specs.Judge.{Row, judged, _when_}
+use Rattle.refusal.specs.Judge.{Row, judged, _when_}
 use Rattle.number.specs.Number.{finite}
 use Rattle.voice.specs.Voices.{isSounding}
 use Rattle.state.specs.declared.Flag.{Flag}
@@ -21,12 +21,12 @@ use Rattle.model.specs.States.{putState, putHeld}
 use Rattle.model.specs.Process.{tablesNeedOf}
 use Rattle.model.specs.Settings.{Done, heldShort}
 use Rattle.model.specs.NoteCalls.{Note, noteFinite, noteOnRows, noteOn, notedOn, noteOffRows, noteOff, releasedTo, voiceEndedRows, voiceEnded, ended, isActive}
-use Rattle.noting.specs.declared.Lane.{Lane}
-use Rattle.noting.specs.declared.Setting.{Setting}
-use Rattle.noting.specs.Noting.{Inside, heldIn, soundOn, heldOn}
-use Rattle.noting.specs.Parts.{laneIn, soundingOf, stateWith, settingOf}
-use Rattle.noting.proofs.Whole.{noted-is, release-is, releaseWorld}
-use Rattle.noting.proofs.Answers.{refused, accepted}
+use Rattle.engine_notes.specs.declared.Lane.{Lane}
+use Rattle.engine_notes.specs.declared.Setting.{Setting}
+use Rattle.engine_notes.specs.Noting.{Inside, heldIn, soundOn, heldOn}
+use Rattle.engine_notes.specs.Parts.{laneIn, soundingOf, stateWith, settingOf}
+use Rattle.engine_notes.proofs.Whole.{noted-is, release-is, releaseWorld}
+use Rattle.engine_notes.proofs.Answers.{refused, accepted}
 
 -- where the first row does not apply
 first-passed : (a : Bool) (rows : List Row) → judged (2 when a ∷ rows) ≡ 0 → a ≡ false

@@ -5,7 +5,7 @@ use mathlib.Core.List.{List, []}
 use Prim.Native.Nat.{ℕ}
 use lib.Ieee.{Float}
 use borrow.Author.Tests.{ne-eqb}
-use Rattle.judge.specs.Judge.{judged}
+use Rattle.refusal.specs.Judge.{judged}
 use Rattle.state.specs.declared.State.{State}
 use Rattle.model.specs.Outputs.{audioPartRows, valuesPartRows, audioPart, framePart, fromPart, toPart}
 

@@ -7,13 +7,13 @@ use Prim.Native.Nat.{ℕ, _≤_, _<_}
 use borrow.Author.Tests.{lt-ltb, le-ltb, ne-eqb}
 use lib.Dec.{eqb, ltb}
 use lib.Ieee.{Float}
-use Rattle.judge.specs.Judge.{judged}
+use Rattle.refusal.specs.Judge.{judged}
 use Rattle.state.specs.declared.Signals.{Signals}
 use Rattle.state.specs.declared.State.{State}
 use Rattle.model.specs.World.{World, worldOf}
 use Rattle.model.specs.Process.{Processed, processRows, run, process}
-use Rattle.opening.specs.Codes.{countsOf, lengthsOf, codeBy}
-use Rattle.opening.proofs.Codes.{code-of-block}
+use Rattle.block_opening.specs.Codes.{countsOf, lengthsOf, codeBy}
+use Rattle.block_opening.proofs.Codes.{code-of-block}
 use Rattle.block.specs.Worlds.{runWorld}
 use Rattle.block.proofs.Blocks.{run-is}
 

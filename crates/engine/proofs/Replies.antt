@@ -8,7 +8,7 @@ use lib.ListN.{length}
 use lib.Ieee.{Float}
 use native.Mathlib.Omega.{arith}
 use borrow.Author.Tests.{ne-eqb}
-use Rattle.judge.specs.Judge.{Row, _when_, judged}
+use Rattle.refusal.specs.Judge.{Row, _when_, judged}
 use Rattle.reply.specs.Reply.{Reply, accepts, refuses, only, byRows}
 use Rattle.state.specs.declared.Chunk.{Chunk}
 use Rattle.state.specs.declared.ChunkRead.{ChunkRead}

@@ -9,8 +9,8 @@ use lib.Dec.{eqb}
 use lib.ListN.{length, getD, set, replicate}
 use lib.Ieee.{Float}
 use Rattle.config.specs.Sizes.{mostVoices, laneStride}
-use Rattle.judge.specs.Judge.{Row, judged}
-use Rattle.judge.proofs.Laws.{judged-none}
+use Rattle.refusal.specs.Judge.{Row, judged}
+use Rattle.refusal.proofs.Laws.{judged-none}
 use Rattle.list.specs.Rows.{onRow}
 use Rattle.voice.specs.Marks.{marksSwapped}
 use Rattle.voice.specs.declared.Marks.{Marks}
@@ -21,7 +21,7 @@ use Rattle.model.specs.Feeds.{isVoice}
 use Rattle.model.specs.World.{World, worldOf, noMark}
 use Rattle.model.specs.States.{withMarks, withGains, withLimit, withPrimed, withProgram, putState, putHeld, putGlobals, putBases}
 use Rattle.model.specs.Settings.{Done, doneBy, heldRows, heldWorld, voiceHeldRows, baseRows, gainRows, withAmount, withOutput, installed, gainsFinite, Swap, setHeld, setVoiceHeld, setBase, setAmount, setOutput, setVoiceLimit, swapProgram}
-use Rattle.setting.specs.Codes.{heldCode, voiceHeldCode, baseCode, gainCode, swapCode}
+use Rattle.engine_settings.specs.Codes.{heldCode, voiceHeldCode, baseCode, gainCode, swapCode}
 
 -- ---- a call by its code
 

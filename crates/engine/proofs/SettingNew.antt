@@ -11,7 +11,7 @@ use lib.ListN.{length}
 use lib.Ieee.{Float}
 use Rattle.config.specs.Sizes.{mostSources, mostDestinations}
 use Rattle.config.specs.declared.Config.{Config}
-use Rattle.judge.specs.Judge.{judged}
+use Rattle.refusal.specs.Judge.{judged}
 use Rattle.state.specs.Registry.{sourceCount, destCount}
 use Rattle.state.specs.declared.Sources.{Sources}
 use Rattle.state.specs.declared.Destinations.{Destinations}
@@ -21,8 +21,8 @@ use Rattle.model.specs.Compile.{zeroed}
 use Rattle.model.specs.World.{World, worldOf}
 use Rattle.model.specs.States.{putState, putHeld, putGlobals, putBases}
 use Rattle.model.specs.Settings.{Done, markOf, freshState, freshWorld, refusedState, newRows, newEngine}
-use Rattle.setting.specs.Codes.{heldNeed, newCode}
-use Rattle.setting.specs.Fresh.{freshOf}
+use Rattle.engine_settings.specs.Codes.{heldNeed, newCode}
+use Rattle.engine_settings.specs.Fresh.{freshOf}
 
 -- the fresh state, by its counts and marks
 fresh-is : (ss : Sources) (ds : Destinations) (c : Config) (n d : ℕ) (marks : List SourceMark) → n ≡ sourceCount ss → d ≡ destCount ds → marks ≡ map markOf (ss .entry)

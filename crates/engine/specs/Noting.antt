@@ -3,10 +3,10 @@ use mathlib.Core.Bool.{not, _||_}
 use mathlib.Core.List.{List}
 use lib.Ieee.{Float}
 use Rattle.number.specs.Number.{over}
-use Rattle.tables.specs.Tables.{velocityPlace, keyPlace}
+use Rattle.slots_tables.specs.Tables.{velocityPlace, keyPlace}
 use Rattle.voice.specs.Notes.{legatoTime}
 use Rattle.model.specs.NoteCalls.{Note, noteCurve, mostKey32}
-use Rattle.noting.specs.declared.Setting.{Setting}
+use Rattle.engine_notes.specs.declared.Setting.{Setting}
 use Rattle.engine.specs.declared.NoteOn.{NoteOn}
 use Rattle.engine.specs.declared.Curves.{Curves}
 

@@ -6,7 +6,7 @@ use Prim.Native.Nat.{ℕ}
 use lib.Dec.{ltb}
 use lib.ListN.{length}
 use lib.Ieee.{Float}
-use Rattle.judge.specs.Judge.{Row, _when_}
+use Rattle.refusal.specs.Judge.{Row, _when_}
 use Rattle.reply.specs.Reply.{Reply, accepts, only, byRows}
 use Rattle.state.specs.declared.Chunk.{Chunk}
 use Rattle.state.specs.declared.ChunkRead.{ChunkRead}

@@ -6,22 +6,24 @@ ghost use Rattle.model.specs.Settings.{refusedState, newEngine, unboundSignals,
 ghost use Rattle.model.specs.Outputs.{engineStride, engineProgram, outputOf, audioPart, framePart, fromPart, toPart, chunkCount, chunkAt, audioAt, controlValue, rampOf, latestOf, latestAll};
 ghost use mathlib.Core.Bool.{not, _||_};
 ghost use Rattle.model.specs.NoteCalls.{newNote, noteFinite, noteOn, noteOff, voiceEnded, isActive};
-ghost use Rattle.noting.specs.Noting.{Inside, soundOn, heldOn};
-ghost use Rattle.noting.specs.Parts.{soundingOf, stateWith};
+ghost use Rattle.engine_notes.specs.Noting.{Inside, soundOn, heldOn};
+ghost use Rattle.engine_notes.specs.Parts.{soundingOf, stateWith};
 ghost use Rattle.model.specs.Process.{process};
 ghost use Rattle.model.specs.States.{withDraw};
 ghost use Rattle.engine.specs.Noting.{noteOf, settingBy};
 ghost use Rattle.engine.specs.Shown.{engineState};
 ghost use Rattle.engine.specs.Replies.{chunkReply, outputReply, readingReply, rampedReply};
 ghost use Rattle.engine.specs.Replies.{chunkSays, outputSays, atSays, valueSays, latestSays, rampSays};
+use block_opening::Lengths;
 use config::Config;
 use config::SIGNAL_STRIDE;
 use config::SOURCES;
-use noting::Lane;
-use noting::RELEASE;
-use noting::Setting;
-use noting::Sounding;
-use opening::Lengths;
+use engine_notes::Lane;
+use engine_notes::RELEASE;
+use engine_notes::Setting;
+use engine_notes::Sounding;
+use slots_tables::KEY_PLACE;
+use slots_tables::VELOCITY_PLACE;
 use state::Bound;
 use state::ChunkRead;
 use state::Destinations;
@@ -35,8 +37,6 @@ use state::SignalPart;
 use state::Signals;
 use state::Sources;
 use state::State;
-use tables::KEY_PLACE;
-use tables::VELOCITY_PLACE;
 
 // An engine; its memories are lent with each call.
 pub struct Engine {
@@ -77,20 +77,20 @@ impl Engine {
         ensures answer { λ r. ⌜ (r .code ≡ newEngine sources dests config (worldOf refusedState (now (held .entry)) (now (globals .entry)) (now (bases .entry)) [] [] []) .code) × (r .engine .state ≡ newEngine sources dests config (worldOf refusedState (now (held .entry)) (now (globals .entry)) (now (bases .entry)) [] [] []) .world .state) ⌝ }
         ensures lent { λ _. ⌜ (now (held .exit) ≡ newEngine sources dests config (worldOf refusedState (now (held .entry)) (now (globals .entry)) (now (bases .entry)) [] [] []) .world .held) × ((now (globals .exit) ≡ newEngine sources dests config (worldOf refusedState (now (held .entry)) (now (globals .entry)) (now (bases .entry)) [] [] []) .world .globals) × (now (bases .exit) ≡ newEngine sources dests config (worldOf refusedState (now (held .entry)) (now (globals .entry)) (now (bases .entry)) [] [] []) .world .bases)) ⌝ }
     {
-        let n = setting::sources_of(sources.count);
-        let d = setting::dests_of(dests.count);
-        let code = setting::new_code(config, n, d, held.len(), globals.len(), bases.len());
+        let n = engine_settings::sources_of(sources.count);
+        let d = engine_settings::dests_of(dests.count);
+        let code = engine_settings::new_code(config, n, d, held.len(), globals.len(), bases.len());
         if code != 0 {
-            let state = setting::refused_state();
+            let state = engine_settings::refused_state();
             let engine = Engine { state };
             return Made { code, engine };
         }
-        compiler::zero(held, setting::held_need(config, n));
-        compiler::zero(globals, n);
-        compiler::zero(bases, d);
+        compile::zero(held, engine_settings::held_need(config, n));
+        compile::zero(globals, n);
+        compile::zero(bases, d);
         let entry = sources.entry;
-        let mark = setting::marks_of(entry);
-        let state = setting::fresh_state(config, n, d, mark);
+        let mark = engine_settings::marks_of(entry);
+        let state = engine_settings::fresh_state(config, n, d, mark);
         let engine = Engine { state };
         Made { code: 0, engine }
     }
@@ -103,8 +103,8 @@ impl Engine {
         let config = state.config;
         let other = program.config;
         let gains = program.gains;
-        let code = setting::swap_code(
-            setting::gains_finite(gains),
+        let code = engine_settings::swap_code(
+            engine_settings::gains_finite(gains),
             config,
             state.sources,
             state.dests,
@@ -175,7 +175,7 @@ impl Engine {
     {
         let state = self.state;
         let config = state.config;
-        let code = setting::held_code(
+        let code = engine_settings::held_code(
             config,
             state.sources,
             held.len(),
@@ -187,9 +187,9 @@ impl Engine {
             return Done { code, engine: self };
         }
         let mark = state.mark;
-        let voice = setting::voice_at(mark, source);
-        let stride = setting::stride_of(config);
-        setting::write_held(held, globals, voice, stride, source, value);
+        let voice = engine_settings::voice_at(mark, source);
+        let stride = engine_settings::stride_of(config);
+        engine_settings::write_held(held, globals, voice, stride, source, value);
         Done {
             code: 0,
             engine: self,
@@ -202,7 +202,7 @@ impl Engine {
     {
         let state = self.state;
         let config = state.config;
-        let code = setting::voice_held_code(
+        let code = engine_settings::voice_held_code(
             config,
             state.sources,
             held.len(),
@@ -213,7 +213,7 @@ impl Engine {
         if code != 0 {
             return Done { code, engine: self };
         }
-        let stride = setting::stride_of(config);
+        let stride = engine_settings::stride_of(config);
         let at = source * stride + voice;
         held[at] = value;
         Done {
@@ -226,7 +226,7 @@ impl Engine {
     pub fn set_base(self, bases: &mut [f32], dest: usize, value: f32) -> Done
         ensures { λ r. ⌜ (r .code ≡ setBase (worldOf (self .state) [] [] (now (bases .entry)) [] [] []) dest value .code) × ((r .engine .state ≡ setBase (worldOf (self .state) [] [] (now (bases .entry)) [] [] []) dest value .world .state) × (now (bases .exit) ≡ setBase (worldOf (self .state) [] [] (now (bases .entry)) [] [] []) dest value .world .bases)) ⌝ }
     {
-        let code = setting::base_code(self.state.dests, bases.len(), dest, value);
+        let code = engine_settings::base_code(self.state.dests, bases.len(), dest, value);
         if code != 0 {
             return Done { code, engine: self };
         }
@@ -241,13 +241,13 @@ impl Engine {
     pub fn set_amount(self, slot: usize, amount: f32) -> Done
         ensures { λ r. ⌜ (r .code ≡ setAmount (worldOf (self .state) [] [] [] [] [] []) slot amount .code) × (r .engine .state ≡ setAmount (worldOf (self .state) [] [] [] [] [] []) slot amount .world .state) ⌝ }
     {
-        let code = setting::gain_code(slot, amount);
+        let code = engine_settings::gain_code(slot, amount);
         if code != 0 {
             return Done { code, engine: self };
         }
         let mut state = self.state;
         let gains = state.gains;
-        let next = setting::with_amount(gains, slot, amount);
+        let next = engine_settings::with_amount(gains, slot, amount);
         state.gains = next;
         let engine = Engine { state };
         Done { code: 0, engine }
@@ -257,13 +257,13 @@ impl Engine {
     pub fn set_output(self, slot: usize, output: f32) -> Done
         ensures { λ r. ⌜ (r .code ≡ setOutput (worldOf (self .state) [] [] [] [] [] []) slot output .code) × (r .engine .state ≡ setOutput (worldOf (self .state) [] [] [] [] [] []) slot output .world .state) ⌝ }
     {
-        let code = setting::gain_code(slot, output);
+        let code = engine_settings::gain_code(slot, output);
         if code != 0 {
             return Done { code, engine: self };
         }
         let mut state = self.state;
         let gains = state.gains;
-        let next = setting::with_output(gains, slot, output);
+        let next = engine_settings::with_output(gains, slot, output);
         state.gains = next;
         let engine = Engine { state };
         Done { code: 0, engine }
@@ -273,7 +273,7 @@ impl Engine {
     pub fn set_voice_limit(self, voices: usize) -> Done
         ensures { λ r. ⌜ (r .code ≡ setVoiceLimit (worldOf (self .state) [] [] [] [] [] []) voices .code) × (r .engine .state ≡ setVoiceLimit (worldOf (self .state) [] [] [] [] [] []) voices .world .state) ⌝ }
     {
-        let limit = setting::limit_of(voices);
+        let limit = engine_settings::limit_of(voices);
         let mut engine = self;
         engine.state.limit = limit;
         Done { code: 0, engine }
@@ -382,8 +382,8 @@ fn setting_by(tables: &[f32], curves: Curves, rate: f32, note: NoteOn) -> Settin
         time,
         rate,
         takes: takes_velocity(legato, curves.velocity_legato),
-        velocity: noting::note_curve(tables, VELOCITY_PLACE, velocity_curve, note.velocity),
-        key: noting::note_curve(tables, KEY_PLACE, key_curve, note.key / 127.0),
+        velocity: engine_notes::note_curve(tables, VELOCITY_PLACE, velocity_curve, note.velocity),
+        key: engine_notes::note_curve(tables, KEY_PLACE, key_curve, note.key / 127.0),
     }
 }
 
@@ -405,7 +405,7 @@ fn play(mut state: State, held: &mut [f32], lane: Lane, setting: Setting) -> Sta
         alternate: state.alternate,
         draw: state.draw,
     };
-    let next = noting::note_on(held, mark, lane, sounding, setting);
+    let next = engine_notes::note_on(held, mark, lane, sounding, setting);
     let voices_next = next.voices;
     state.voices = voices_next;
     let marks_next = next.marks;
@@ -427,10 +427,10 @@ impl Engine {
         let state = self.state;
         let config = state.config;
         let program = state.program;
-        let code = noting::code(
-            noting::no_voice(config.voices, voice),
+        let code = engine_notes::code(
+            engine_notes::no_voice(config.voices, voice),
             note_finite(note),
-            noting::memory_short(
+            engine_notes::memory_short(
                 held.len(),
                 tables.len(),
                 state.sources,
@@ -450,7 +450,7 @@ impl Engine {
             velocity_legato: program.velocity_legato,
         };
         let setting = setting_by(tables, curves, config.sample_rate, note);
-        let lane = noting::lane_of(state.sources, config.voices, voice);
+        let lane = engine_notes::lane_of(state.sources, config.voices, voice);
         let next = play(state, held, lane, setting);
         let engine = Engine { state: next };
         Done { code: 0, engine }
@@ -462,17 +462,17 @@ impl Engine {
     {
         let state = self.state;
         let config = state.config;
-        let code = noting::code(
-            noting::no_voice(config.voices, voice),
+        let code = engine_notes::code(
+            engine_notes::no_voice(config.voices, voice),
             number::is_finite(release_velocity),
-            noting::held_short(held.len(), state.sources, config.voices),
+            engine_notes::held_short(held.len(), state.sources, config.voices),
         );
         if code != 0 {
             return Done { code, engine: self };
         }
         let mark = state.mark;
-        let lane = noting::lane_of(state.sources, config.voices, voice);
-        noting::write_kind(held, mark, lane, RELEASE, release_velocity);
+        let lane = engine_notes::lane_of(state.sources, config.voices, voice);
+        engine_notes::write_kind(held, mark, lane, RELEASE, release_velocity);
         Done {
             code: 0,
             engine: self,
@@ -485,10 +485,10 @@ impl Engine {
     {
         let mut state = self.state;
         let config = state.config;
-        let code = noting::code(
-            noting::no_voice(config.voices, voice),
+        let code = engine_notes::code(
+            engine_notes::no_voice(config.voices, voice),
             true,
-            noting::held_short(held.len(), state.sources, config.voices),
+            engine_notes::held_short(held.len(), state.sources, config.voices),
         );
         if code != 0 {
             return Done { code, engine: self };
@@ -515,7 +515,7 @@ impl Engine {
     {
         let state = self.state;
         let config = state.config;
-        if noting::no_voice(config.voices, voice) {
+        if engine_notes::no_voice(config.voices, voice) {
             return Flag { code: 2, on: false };
         }
         let voices = state.voices;
@@ -593,7 +593,7 @@ impl Engine {
         ensures reply { λ r. ⌜ outputReply r ≡ outputSays (self .state) (now (values .entry)) (now (audio .entry)) dest ⌝ }
     {
         let state = self.state;
-        reading::output(state, values, audio, dest)
+        engine_reads::output(state, values, audio, dest)
     }
 
     // The audio rows of a destination; their number goes into `code`.
@@ -601,7 +601,7 @@ impl Engine {
         ensures { λ r. ⌜ (now r ≡ audioPart (self .state) (now (audio .entry)) dest .numbers) × (now (code .exit) ≡ audioPart (self .state) (now (audio .entry)) dest .code) ⌝ }
     {
         let state = self.state;
-        reading::audio_part(state, audio, dest, code)
+        engine_reads::audio_part(state, audio, dest, code)
     }
 
     // The "from" rows of the last block's chunks.
@@ -609,7 +609,7 @@ impl Engine {
         ensures { λ r. ⌜ (now r ≡ fromPart (self .state) (now (values .entry)) dest .numbers) × (now (code .exit) ≡ fromPart (self .state) (now (values .entry)) dest .code) ⌝ }
     {
         let state = self.state;
-        reading::from_part(state, values, dest, code)
+        engine_reads::from_part(state, values, dest, code)
     }
 
     // Their "to" rows.
@@ -617,7 +617,7 @@ impl Engine {
         ensures { λ r. ⌜ (now r ≡ toPart (self .state) (now (values .entry)) dest .numbers) × (now (code .exit) ≡ toPart (self .state) (now (values .entry)) dest .code) ⌝ }
     {
         let state = self.state;
-        reading::to_part(state, values, dest, code)
+        engine_reads::to_part(state, values, dest, code)
     }
 
     // How many chunks the last nonempty block made.
@@ -625,7 +625,7 @@ impl Engine {
         ensures { λ r. ⌜ r ≡ chunkCount (self .state) ⌝ }
     {
         let state = self.state;
-        reading::chunk_count(state)
+        engine_reads::chunk_count(state)
     }
 
     // Chunk i of them.
@@ -634,7 +634,7 @@ impl Engine {
         ensures reply { λ r. ⌜ chunkReply r ≡ chunkSays (self .state) i ⌝ }
     {
         let state = self.state;
-        reading::chunk_at(state, i)
+        engine_reads::chunk_at(state, i)
     }
 
     // The number at a frame, of an audio plan.
@@ -643,7 +643,7 @@ impl Engine {
         ensures reply { λ r. ⌜ readingReply r ≡ atSays (self .state) (now (audio .entry)) dest frame voice ⌝ }
     {
         let state = self.state;
-        reading::at(state, audio, dest, frame, voice)
+        engine_reads::at(state, audio, dest, frame, voice)
     }
 
     // The row at a frame, of an audio plan.
@@ -651,7 +651,7 @@ impl Engine {
         ensures { λ r. ⌜ (now r ≡ framePart (self .state) (now (audio .entry)) dest frame .numbers) × (now (code .exit) ≡ framePart (self .state) (now (audio .entry)) dest frame .code) ⌝ }
     {
         let state = self.state;
-        reading::audio_frame(state, audio, dest, frame, code)
+        engine_reads::audio_frame(state, audio, dest, frame, code)
     }
 
     // The number after a chunk, of a control plan.
@@ -660,7 +660,7 @@ impl Engine {
         ensures reply { λ r. ⌜ readingReply r ≡ valueSays (self .state) (now (values .entry)) dest chunk voice ⌝ }
     {
         let state = self.state;
-        reading::value(state, values, dest, chunk, voice)
+        engine_reads::value(state, values, dest, chunk, voice)
     }
 
     // The ramp of a control plan over the last block, a number a frame.
@@ -669,7 +669,7 @@ impl Engine {
         ensures reply { λ r. ⌜ rampedReply r ≡ rampSays (self .state) (now (values .entry)) dest voice (now (out .entry)) ⌝ }
     {
         let state = self.state;
-        reading::ramp(state, values, dest, voice, out)
+        engine_reads::ramp(state, values, dest, voice, out)
     }
 
     // The number after the last chunk, or at its last frame.
@@ -678,7 +678,7 @@ impl Engine {
         ensures reply { λ r. ⌜ readingReply r ≡ latestSays (self .state) (now (values .entry)) (now (audio .entry)) dest voice ⌝ }
     {
         let state = self.state;
-        reading::latest(state, values, audio, dest, voice)
+        engine_reads::latest(state, values, audio, dest, voice)
     }
 
     // The latest number of every destination for each of so many voices.
@@ -686,6 +686,6 @@ impl Engine {
         ensures { λ r. ⌜ (r ≡ latestAll (self .state) (now (values .entry)) (now (audio .entry)) voices (now (out .entry)) .code) × (now (out .exit) ≡ latestAll (self .state) (now (values .entry)) (now (audio .entry)) voices (now (out .entry)) .out) ⌝ }
     {
         let state = self.state;
-        reading::latest_all(state, values, audio, voices, out)
+        engine_reads::latest_all(state, values, audio, voices, out)
     }
 }

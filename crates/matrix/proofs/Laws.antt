@@ -9,20 +9,20 @@ use lib.Seq.{set-out}
 use lib.Ieee.{Float}
 use borrow.Author.Tests.{not-false, ltb-false, leb-false, eqb-true, ne-eqb, lt-ltb, le-ltb}
 use Rattle.number.specs.Number.{zero32, finite}
-use Rattle.judge.specs.Judge.{judged}
-use Rattle.judge.proofs.Laws.{judged-accepted}
+use Rattle.refusal.specs.Judge.{judged}
+use Rattle.refusal.proofs.Laws.{judged-accepted}
 use Rattle.config.specs.Sizes.{slots}
-use Rattle.table.specs.Table.{points}
+use Rattle.curve_table.specs.Table.{points}
 use Rattle.state.specs.declared.Slot.{Slot}
 use Rattle.state.specs.declared.Matrix.{Matrix}
-use Rattle.tables.specs.Tables.{tablesNeed, withTables, namesTable}
-use Rattle.sorting.specs.Moved.{slotsAt, movedTables}
-use Rattle.slot.specs.Matrix.{withSlots, withSlot}
-use Rattle.tables.specs.Rows.{finiteRow, tableRows}
+use Rattle.slots_tables.specs.Tables.{tablesNeed, withTables, namesTable}
+use Rattle.matrix_sorting.specs.Moved.{slotsAt, movedTables}
+use Rattle.slots.specs.Matrix.{withSlots, withSlot}
+use Rattle.slots_tables.specs.Rows.{finiteRow, tableRows}
 use Rattle.matrix.specs.Edits.{slotRow, answered, placed, tabled, sortedFrom, matrixAllowed, sortSlots, loadMatrix}
-use Rattle.slot.specs.Slots.{firstEmpty, routeSlot, keptAmount}
-use Rattle.editing.specs.Drag.{bothFinite, polarityAt, depthAt, draggedAmount}
-use Rattle.editing.specs.Free.{firstFree}
+use Rattle.slots.specs.Slots.{firstEmpty, routeSlot, keptAmount}
+use Rattle.matrix_editing.specs.Drag.{bothFinite, polarityAt, depthAt, draggedAmount}
+use Rattle.matrix_editing.specs.Free.{firstFree}
 use Rattle.state.specs.declared.Target.{Target}
 use Rattle.state.specs.declared.Polarity.{Polarity}
 use Rattle.state.specs.declared.Polarity.the-variants as L

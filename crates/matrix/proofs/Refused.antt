@@ -11,17 +11,17 @@ use lib.Ieee.{Float}
 use lib.Dec.{ltb}
 use lib.ListN.{length, getD, List·getD-eq-default}
 use Rattle.number.specs.Number.{finite}
-use Rattle.editing.specs.Free.{firstFree}
+use Rattle.matrix_editing.specs.Free.{firstFree}
 use borrow.Author.Tests.{ne-eqb, le-ltb, lt-ltb, lt-leb}
 use Rattle.config.specs.Sizes.{slots}
-use Rattle.judge.specs.Judge.{Row, judged}
+use Rattle.refusal.specs.Judge.{Row, judged}
 use Rattle.state.specs.declared.Pick.{Pick}
 use Rattle.state.specs.declared.Target.{Target}
 use Rattle.state.specs.declared.Polarity.{Polarity}
 use Rattle.state.specs.declared.Slot.{Slot}
 use Rattle.state.specs.declared.Matrix.{Matrix}
-use Rattle.slot.specs.Slots.{emptySlot}
-use Rattle.slot.specs.Matrix.{slotOf}
+use Rattle.slots.specs.Slots.{emptySlot}
+use Rattle.slots.specs.Matrix.{slotOf}
 use Rattle.matrix.specs.Edits.{WithTables, slotAt, answered, edited, placed, tabled, setSlot, addRoute, removeSlot, setBypass, setSlotAmount, setSlotOutput, setPolarity, setAux, setLinear, setCurve, setNoteCurve, sortSlots, loadMatrix}
 use Rattle.matrix.specs.Routes.{dragRoute, addVibrato, createVibrato, createVelocityToAmp}
 use Rattle.matrix.specs.declared.CurveSlot.{CurveSlot}

@@ -9,7 +9,7 @@ use lib.Ieee.{Float}
 use native.Mathlib.Omega.{arith}
 use borrow.Author.Tests.{ne-eqb}
 use Rattle.config.specs.Sizes.{slots}
-use Rattle.judge.specs.Judge.{Row, _when_, judged}
+use Rattle.refusal.specs.Judge.{Row, _when_, judged}
 use Rattle.number.specs.Number.{finite}
 use Rattle.reply.specs.Reply.{Reply, accepts, refuses, only, byRows}
 use Rattle.state.specs.declared.Pick.the-variants as A
@@ -18,10 +18,10 @@ use Rattle.state.specs.declared.Polarity.{Polarity}
 use Rattle.state.specs.declared.Polarity.the-variants as L
 use Rattle.state.specs.declared.Slot.{Slot}
 use Rattle.state.specs.declared.Matrix.{Matrix}
-use Rattle.slot.specs.Slots.{firstEmpty, routeSlot, keptAmount, withAux}
-use Rattle.slot.specs.Matrix.{withSlot}
-use Rattle.editing.specs.Drag.{bothFinite, polarityAt, draggedAmount}
-use Rattle.editing.specs.Free.{firstFree}
+use Rattle.slots.specs.Slots.{firstEmpty, routeSlot, keptAmount, withAux}
+use Rattle.slots.specs.Matrix.{withSlot}
+use Rattle.matrix_editing.specs.Drag.{bothFinite, polarityAt, draggedAmount}
+use Rattle.matrix_editing.specs.Free.{firstFree}
 use Rattle.matrix.specs.declared.Place.the-variants as P
 use Rattle.matrix.specs.declared.Placed.{Placed}
 use Rattle.matrix.specs.Edits.{placed, addRoute}

@@ -6,23 +6,23 @@ use lib.Dec.{eqb, leb, ltb}
 use lib.ListN.{length}
 use lib.Ieee.{Float}
 use Rattle.config.specs.Sizes.{slots}
-use Rattle.judge.specs.Judge.{Row, judged, _when_}
+use Rattle.refusal.specs.Judge.{Row, judged, _when_}
 use Rattle.number.specs.Number.{finite}
-use Rattle.table.specs.Table.{allAllowed}
-use Rattle.table.specs.declared.Curve.the-variants as C
+use Rattle.curve_table.specs.Table.{allAllowed}
+use Rattle.curve_table.specs.declared.Curve.the-variants as C
 use Rattle.state.specs.declared.Pick.{Pick}
 use Rattle.state.specs.declared.Target.{Target}
 use Rattle.state.specs.declared.Polarity.{Polarity}
 use Rattle.state.specs.declared.NoteCurve.the-variants as N
 use Rattle.state.specs.declared.Slot.{Slot}
 use Rattle.state.specs.declared.Matrix.{Matrix}
-use Rattle.slot.specs.Slots.{emptySlot, firstEmpty, routeSlot, keptAmount, keptOutput, cleared, countAims, numbersFinite, allFinite, withAmount, withOutput, withBypass, withPolarity, withAux}
-use Rattle.tables.specs.Tables.{tablesNeed, withTable, withTables, namesTable, namedAllowed}
-use Rattle.tables.specs.Rows.{finiteRow, tableRows, curveAllowed}
-use Rattle.sorting.specs.Keys.{keyOf}
-use Rattle.sorting.specs.Order.{sortedPlaces}
-use Rattle.sorting.specs.Moved.{slotsAt, movedTables}
-use Rattle.slot.specs.Matrix.{slotOf, withSlot, withSlots, withGlide, withVelocityLegato}
+use Rattle.slots.specs.Slots.{emptySlot, firstEmpty, routeSlot, keptAmount, keptOutput, cleared, countAims, numbersFinite, allFinite, withAmount, withOutput, withBypass, withPolarity, withAux}
+use Rattle.slots_tables.specs.Tables.{tablesNeed, withTable, withTables, namesTable, namedAllowed}
+use Rattle.slots_tables.specs.Rows.{finiteRow, tableRows, curveAllowed}
+use Rattle.matrix_sorting.specs.Keys.{keyOf}
+use Rattle.matrix_sorting.specs.Order.{sortedPlaces}
+use Rattle.matrix_sorting.specs.Moved.{slotsAt, movedTables}
+use Rattle.slots.specs.Matrix.{slotOf, withSlot, withSlots, withGlide, withVelocityLegato}
 use Rattle.matrix.specs.Which.{withCurve, withNote, placeOf, notePlace}
 use Rattle.matrix.specs.declared.CurveSlot.{CurveSlot}
 use Rattle.matrix.specs.declared.NoteSlot.{NoteSlot}

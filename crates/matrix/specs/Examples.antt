@@ -5,29 +5,29 @@ use mathlib.Core.List.{[], _∷_}
 use lib.IntN.{negsuc}
 use lib.ListN.{replicate}
 use lib.Ieee.{nan, inf, fin, neg, isNan, sub, lt, le}
-use Rattle.judge.specs.Judge.{judged}
+use Rattle.refusal.specs.Judge.{judged}
 use Rattle.list.specs.Part.{part}
 use Rattle.list.specs.Rows.{rowAt}
 use Rattle.number.specs.Number.{zero32, half32, one32, finite, min32, absOf, clampTo}
-use Rattle.table.specs.Table.{allowed, allAllowed}
-use Rattle.table.specs.Curve.{secondsFinite}
-use Rattle.table.specs.declared.Curve.the-variants as C
+use Rattle.curve_table.specs.Table.{allowed, allAllowed}
+use Rattle.curve_table.specs.Curve.{secondsFinite}
+use Rattle.curve_table.specs.declared.Curve.the-variants as C
 use Rattle.state.specs.declared.Pick.the-variants as A
 use Rattle.state.specs.declared.Target.the-variants as T
 use Rattle.state.specs.declared.Polarity.the-variants as L
 use Rattle.state.specs.declared.NoteCurve.the-variants as N
 use Rattle.state.specs.declared.Slot.{Slot}
 use Rattle.state.specs.declared.Matrix.{Matrix}
-use Rattle.slot.specs.Slots.{emptySlot, isEmptySlot, firstEmpty, routeSlot, keptAmount, cleared, countAims, numbersFinite, allFinite, withAmount, withAux, withSourceCurve}
-use Rattle.tables.specs.Tables.{slotNames, anyNames, namesTable, placeAllowed, slotAllowed, slotsAllowed, namedAllowed}
-use Rattle.sorting.specs.Keys.{keyOf}
-use Rattle.sorting.specs.Order.{before, countBefore, rankOf, ranks, placesOf, sortedPlaces}
-use Rattle.sorting.specs.Moved.{slotsAt}
-use Rattle.slot.specs.Matrix.{newMatrix, slotOf, withSlots, withSlot, withVelocity}
-use Rattle.tables.specs.Rows.{curveAllowed}
+use Rattle.slots.specs.Slots.{emptySlot, isEmptySlot, firstEmpty, routeSlot, keptAmount, cleared, countAims, numbersFinite, allFinite, withAmount, withAux, withSourceCurve}
+use Rattle.slots_tables.specs.Tables.{slotNames, anyNames, namesTable, placeAllowed, slotAllowed, slotsAllowed, namedAllowed}
+use Rattle.matrix_sorting.specs.Keys.{keyOf}
+use Rattle.matrix_sorting.specs.Order.{before, countBefore, rankOf, ranks, placesOf, sortedPlaces}
+use Rattle.matrix_sorting.specs.Moved.{slotsAt}
+use Rattle.slots.specs.Matrix.{newMatrix, slotOf, withSlots, withSlot, withVelocity}
+use Rattle.slots_tables.specs.Rows.{curveAllowed}
 use Rattle.matrix.specs.Edits.{answered, edited, placed, tabled, slotAt, setSlot, addRoute, setSlotAmount, removeDestination, setCurve, sortedFrom, matrixAllowed, sortSlots, loadMatrix}
-use Rattle.editing.specs.Drag.{bothFinite, centred, twoWay, polarityAt, oneWayRoom, within, depthAt, draggedAmount}
-use Rattle.editing.specs.Free.{inUse, firstFree}
+use Rattle.matrix_editing.specs.Drag.{bothFinite, centred, twoWay, polarityAt, oneWayRoom, within, depthAt, draggedAmount}
+use Rattle.matrix_editing.specs.Free.{inUse, firstFree}
 use Rattle.matrix.specs.Routes.{dragRoute, addVibrato, createVibrato, createVelocityToAmp, dragPolarity, limitDepth}
 use Rattle.matrix.specs.declared.CurveSlot.the-variants as W
 use Rattle.matrix.specs.declared.Place.the-variants as P

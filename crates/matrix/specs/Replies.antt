@@ -7,14 +7,14 @@ use lib.Dec.{ltb}
 use lib.ListN.{length}
 use lib.Ieee.{Float}
 use Rattle.config.specs.Sizes.{slots}
-use Rattle.judge.specs.Judge.{Row}
+use Rattle.refusal.specs.Judge.{Row}
 use Rattle.number.specs.Number.{finite}
 use Rattle.reply.specs.Reply.{Reply, accepts, refuses, only, byRows}
 use Rattle.state.specs.declared.Matrix.{Matrix}
-use Rattle.slot.specs.Slots.{firstEmpty}
-use Rattle.tables.specs.Rows.{finiteRow}
-use Rattle.editing.specs.Drag.{bothFinite}
-use Rattle.editing.specs.Free.{firstFree}
+use Rattle.slots.specs.Slots.{firstEmpty}
+use Rattle.slots_tables.specs.Rows.{finiteRow}
+use Rattle.matrix_editing.specs.Drag.{bothFinite}
+use Rattle.matrix_editing.specs.Free.{firstFree}
 use Rattle.matrix.specs.declared.Place.{Place}
 use Rattle.matrix.specs.declared.Place.the-variants as P
 use Rattle.matrix.specs.declared.Placed.{Placed}

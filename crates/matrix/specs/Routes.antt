@@ -5,17 +5,17 @@ use Prim.Native.Nat.{ℕ}
 use lib.Dec.{ltb}
 use lib.ListN.{length, getD}
 use lib.Ieee.{Float}
-use Rattle.judge.specs.Judge.{judged}
+use Rattle.refusal.specs.Judge.{judged}
 use Rattle.number.specs.Number.{zero32, finite}
 use Rattle.state.specs.declared.Pick.the-variants as A
 use Rattle.state.specs.declared.Target.{Target}
 use Rattle.state.specs.declared.Polarity.{Polarity}
 use Rattle.state.specs.declared.Polarity.the-variants as L
 use Rattle.state.specs.declared.Matrix.{Matrix}
-use Rattle.slot.specs.Slots.{firstEmpty, routeSlot, keptAmount, withAux}
-use Rattle.tables.specs.Rows.{finiteRow}
-use Rattle.editing.specs.Drag.{bothFinite, polarityAt, depthAt, draggedAmount}
-use Rattle.editing.specs.Free.{firstFree}
+use Rattle.slots.specs.Slots.{firstEmpty, routeSlot, keptAmount, withAux}
+use Rattle.slots_tables.specs.Rows.{finiteRow}
+use Rattle.matrix_editing.specs.Drag.{bothFinite, polarityAt, depthAt, draggedAmount}
+use Rattle.matrix_editing.specs.Free.{firstFree}
 use Rattle.matrix.specs.Edits.{placed, addRoute}
 use Rattle.matrix.specs.declared.Place.the-variants as P
 use Rattle.matrix.specs.declared.Placed.{Placed}

@@ -1,12 +1,12 @@
 -- The curve that a call names: replaced, and the place of its table (matrix.rs 300-307; docs/CALLS.md, Memories). Definitions only.
 use Prim.Native.Nat.{ℕ}
-use Rattle.table.specs.declared.Curve.{Curve}
+use Rattle.curve_table.specs.declared.Curve.{Curve}
 use Rattle.state.specs.declared.NoteCurve.{NoteCurve}
 use Rattle.state.specs.declared.Slot.{Slot}
 use Rattle.state.specs.declared.Matrix.{Matrix}
-use Rattle.slot.specs.Slots.{withSourceCurve, withAuxCurve}
-use Rattle.slot.specs.Matrix.{withVelocity, withKey}
-use Rattle.tables.specs.Tables.{slotPlace, velocityPlace, keyPlace}
+use Rattle.slots.specs.Slots.{withSourceCurve, withAuxCurve}
+use Rattle.slots.specs.Matrix.{withVelocity, withKey}
+use Rattle.slots_tables.specs.Tables.{slotPlace, velocityPlace, keyPlace}
 use Rattle.matrix.specs.declared.CurveSlot.{CurveSlot}
 use Rattle.matrix.specs.declared.CurveSlot.the-variants as W
 use Rattle.matrix.specs.declared.NoteSlot.{NoteSlot}

@@ -2,26 +2,26 @@
 ghost use mathlib.Core.Path.{_≡_};
 ghost use mathlib.Core.List.{[], _∷_};
 ghost use Prim.Native.Nat.{_<_};
-ghost use Rattle.judge.specs.Judge.{judged};
-ghost use Rattle.slot.specs.Slots.{emptySlot, isEmptySlot};
-ghost use Rattle.tables.specs.Tables.{places};
-ghost use Rattle.slot.specs.Matrix.{newMatrix, slotsOf, withSlot};
+ghost use Rattle.refusal.specs.Judge.{judged};
+ghost use Rattle.slots.specs.Slots.{emptySlot, isEmptySlot};
+ghost use Rattle.slots_tables.specs.Tables.{places};
+ghost use Rattle.slots.specs.Matrix.{newMatrix, slotsOf, withSlot};
 ghost use Rattle.matrix.specs.Which.{withCurve, withNote, placeOf, notePlace};
-ghost use Rattle.tables.specs.Rows.{finiteRow};
+ghost use Rattle.slots_tables.specs.Rows.{finiteRow};
 ghost use Rattle.matrix.specs.Edits.{slotRow, answered, placed, slotAt, setSlot, addRoute, removeSlot, setBypass, setSlotAmount, setSlotOutput, setPolarity, setAux, setLinear, removeDestination, setGlide, setVelocityLegato, setNoteLinear, setCurve, setNoteCurve, matrixAllowed, bySource, sortSlots, loadMatrix};
 ghost use Rattle.matrix.specs.Replies.{placedReply, addSays, dragSays, vibratoSays};
 ghost use Rattle.matrix.specs.Routes.{dragRoute, addVibrato, createVibrato, createVelocityToAmp, dragPolarity, limitDepth};
 use config::SLOTS;
+use curve_table::Curve;
+use slots_tables::KEY_PLACE;
+use slots_tables::TABLES;
+use slots_tables::VELOCITY_PLACE;
 use state::Matrix;
 use state::NoteCurve;
 use state::Pick;
 use state::Polarity;
 use state::Slot;
 use state::Target;
-use table::Curve;
-use tables::KEY_PLACE;
-use tables::TABLES;
-use tables::VELOCITY_PLACE;
 
 // ---- answers
 
@@ -84,7 +84,7 @@ pub struct Depth {
 pub fn empty_slot() -> Slot
     ensures { λ r. ⌜ r ≡ emptySlot ⌝ }
 {
-    slot::empty_slot()
+    slots::empty_slot()
 }
 
 // a matrix of empty slots
@@ -106,7 +106,7 @@ pub fn new() -> Matrix
 pub fn is_empty(slot: Slot) -> bool
     ensures { λ r. ⌜ r ≡ isEmptySlot slot ⌝ }
 {
-    slot::is_empty(slot)
+    slots::is_empty(slot)
 }
 
 // the matrix's slots
@@ -122,7 +122,7 @@ pub fn slot(matrix: Matrix, n: usize) -> SlotRead
 {
     SlotRead {
         code: slot_code(n),
-        slot: slot::slot_of(matrix, n),
+        slot: slots::slot_of(matrix, n),
     }
 }
 
@@ -147,14 +147,14 @@ fn answer(code: u8, matrix: Matrix, n: usize, slot: Slot) -> Edited
 fn slot_code(n: usize) -> u8
     ensures { λ r. ⌜ r ≡ judged (slotRow n ∷ []) ⌝ }
 {
-    judge::row(SLOTS <= n, 5)
+    refusal::row(SLOTS <= n, 5)
 }
 
 // row 5, then row 6
 fn slot_and_number_code(n: usize, finite: bool) -> u8
     ensures { λ r. ⌜ r ≡ judged (slotRow n ∷ finiteRow finite ∷ []) ⌝ }
 {
-    judge::first(slot_code(n), judge::row(!finite, 6))
+    refusal::first(slot_code(n), refusal::row(!finite, 6))
 }
 
 // ---- edits of one slot
@@ -164,7 +164,7 @@ pub fn set_slot(matrix: Matrix, n: usize, slot: Slot) -> Edited
     ensures { λ r. ⌜ r ≡ setSlot matrix n slot ⌝ }
 {
     answer(
-        slot_and_number_code(n, slot::numbers_finite(slot)),
+        slot_and_number_code(n, slots::numbers_finite(slot)),
         matrix,
         n,
         slot,
@@ -186,7 +186,7 @@ pub fn set_bypass(matrix: Matrix, n: usize, bypass: bool) -> Edited
         slot_code(n),
         matrix,
         n,
-        slot::with_bypass(slot::slot_of(matrix, n), bypass),
+        slots::with_bypass(slots::slot_of(matrix, n), bypass),
     )
 }
 
@@ -194,7 +194,7 @@ pub fn set_bypass(matrix: Matrix, n: usize, bypass: bool) -> Edited
 pub fn set_amount(matrix: Matrix, n: usize, amount: f32) -> Edited
     ensures { λ r. ⌜ r ≡ setSlotAmount matrix n amount ⌝ }
 {
-    let slot = slot::with_amount(slot::slot_of(matrix, n), slot::kept_amount(amount));
+    let slot = slots::with_amount(slots::slot_of(matrix, n), slots::kept_amount(amount));
     answer(
         slot_and_number_code(n, number::is_finite(amount)),
         matrix,
@@ -207,7 +207,7 @@ pub fn set_amount(matrix: Matrix, n: usize, amount: f32) -> Edited
 pub fn set_output(matrix: Matrix, n: usize, output: f32) -> Edited
     ensures { λ r. ⌜ r ≡ setSlotOutput matrix n output ⌝ }
 {
-    let slot = slot::with_output(slot::slot_of(matrix, n), slot::kept_output(output));
+    let slot = slots::with_output(slots::slot_of(matrix, n), slots::kept_output(output));
     answer(
         slot_and_number_code(n, number::is_finite(output)),
         matrix,
@@ -224,7 +224,7 @@ pub fn set_polarity(matrix: Matrix, n: usize, polarity: Polarity) -> Edited
         slot_code(n),
         matrix,
         n,
-        slot::with_polarity(slot::slot_of(matrix, n), polarity),
+        slots::with_polarity(slots::slot_of(matrix, n), polarity),
     )
 }
 
@@ -236,7 +236,7 @@ pub fn set_aux(matrix: Matrix, n: usize, aux: Pick, invert: bool) -> Edited
         slot_code(n),
         matrix,
         n,
-        slot::with_aux(slot::slot_of(matrix, n), aux, invert),
+        slots::with_aux(slots::slot_of(matrix, n), aux, invert),
     )
 }
 
@@ -244,8 +244,8 @@ fn with_curve(slot: Slot, which: CurveSlot, curve: Curve) -> Slot
     ensures { λ r. ⌜ r ≡ withCurve which curve slot ⌝ }
 {
     match which {
-        CurveSlot::Source => slot::with_source_curve(slot, curve),
-        CurveSlot::Aux => slot::with_aux_curve(slot, curve),
+        CurveSlot::Source => slots::with_source_curve(slot, curve),
+        CurveSlot::Aux => slots::with_aux_curve(slot, curve),
     }
 }
 
@@ -258,7 +258,7 @@ pub fn set_linear(matrix: Matrix, n: usize, which: CurveSlot) -> Edited
         slot_code(n),
         matrix,
         n,
-        with_curve(slot::slot_of(matrix, n), which, linear),
+        with_curve(slots::slot_of(matrix, n), which, linear),
     )
 }
 
@@ -302,10 +302,10 @@ pub fn add(
     ensures { λ r. ⌜ r ≡ addRoute matrix source destination amount polarity ⌝ }
     ensures reply { λ r. ⌜ placedReply r ≡ addSays matrix amount ⌝ }
 {
-    let code = judge::row(!number::is_finite(amount), 6);
-    let route = slot::route_slot(source, destination, slot::kept_amount(amount), polarity);
+    let code = refusal::row(!number::is_finite(amount), 6);
+    let route = slots::route_slot(source, destination, slots::kept_amount(amount), polarity);
     let slots = matrix.slot;
-    place_at(code, matrix, slot::first_empty(slots), route)
+    place_at(code, matrix, slots::first_empty(slots), route)
 }
 
 // ---- routes that the editor makes
@@ -323,12 +323,12 @@ pub fn drag(
     ensures { λ r. ⌜ r ≡ dragRoute matrix source destination position amount toggle limit ⌝ }
     ensures reply { λ r. ⌜ placedReply r ≡ dragSays matrix position amount ⌝ }
 {
-    let code = judge::row(!editing::both_finite(position, amount), 6);
-    let polarity = editing::polarity_at(position, toggle);
-    let dragged = editing::dragged_amount(position, polarity, amount, limit);
-    let route = slot::route_slot(source, destination, slot::kept_amount(dragged), polarity);
+    let code = refusal::row(!matrix_editing::both_finite(position, amount), 6);
+    let polarity = matrix_editing::polarity_at(position, toggle);
+    let dragged = matrix_editing::dragged_amount(position, polarity, amount, limit);
+    let route = slots::route_slot(source, destination, slots::kept_amount(dragged), polarity);
     let slots = matrix.slot;
-    place_at(code, matrix, slot::first_empty(slots), route)
+    place_at(code, matrix, slots::first_empty(slots), route)
 }
 
 // a route both ways from that LFO, with the mod wheel as its aux, in the first empty slot
@@ -336,11 +336,11 @@ fn vibrato(matrix: Matrix, lfo: usize, mod_wheel: usize, tuning: Target, amount:
     ensures { λ r. ⌜ r ≡ addVibrato matrix lfo «mod_wheel» tuning amount ⌝ }
 {
     let both = Polarity::Bipolar;
-    let route = slot::route_slot(lfo, tuning, slot::kept_amount(amount), both);
+    let route = slots::route_slot(lfo, tuning, slots::kept_amount(amount), both);
     let wheel = Pick::Source(mod_wheel);
-    let with_wheel = slot::with_aux(route, wheel, false);
+    let with_wheel = slots::with_aux(route, wheel, false);
     let slots = matrix.slot;
-    place_at(0, matrix, slot::first_empty(slots), with_wheel)
+    place_at(0, matrix, slots::first_empty(slots), with_wheel)
 }
 
 // a vibrato from the first of the LFOs that no slot uses
@@ -362,7 +362,7 @@ pub fn create_vibrato(
         };
     }
     let slots = matrix.slot;
-    let free = editing::first_free(lfos, slots);
+    let free = matrix_editing::first_free(lfos, slots);
     if lfos.len() <= free {
         return Placed {
             code: 0,
@@ -393,7 +393,7 @@ pub fn drag_polarity(position: f32, toggle: bool) -> PolarityMade
             polarity: Polarity::Unipolar,
         };
     }
-    let polarity = editing::polarity_at(position, toggle);
+    let polarity = matrix_editing::polarity_at(position, toggle);
     PolarityMade { code: 0, polarity }
 }
 
@@ -401,13 +401,13 @@ pub fn drag_polarity(position: f32, toggle: bool) -> PolarityMade
 pub fn limit_depth(position: f32, polarity: Polarity, amount: f32) -> Depth
     ensures { λ r. ⌜ r ≡ limitDepth position polarity amount ⌝ }
 {
-    if !editing::both_finite(position, amount) {
+    if !matrix_editing::both_finite(position, amount) {
         return Depth {
             code: 6,
             amount: 0.0,
         };
     }
-    let depth = editing::depth_at(position, polarity, amount);
+    let depth = matrix_editing::depth_at(position, polarity, amount);
     Depth {
         code: 0,
         amount: depth,
@@ -421,11 +421,11 @@ pub fn remove_destination(matrix: Matrix, destination: Target) -> Removed
     ensures { λ r. ⌜ r ≡ removeDestination matrix destination ⌝ }
 {
     let slot = matrix.slot;
-    let count = slot::count_aims(destination, slot);
-    let next = slot::clear_all(destination, slot);
+    let count = slots::count_aims(destination, slot);
+    let next = slots::clear_all(destination, slot);
     Removed {
         count,
-        matrix: slot::with_slots(matrix, next),
+        matrix: slots::with_slots(matrix, next),
     }
 }
 
@@ -453,8 +453,8 @@ fn with_note(matrix: Matrix, which: NoteSlot, curve: NoteCurve) -> Matrix
     ensures { λ r. ⌜ r ≡ withNote matrix which curve ⌝ }
 {
     match which {
-        NoteSlot::Velocity => slot::with_velocity(matrix, curve),
-        NoteSlot::Key => slot::with_key(matrix, curve),
+        NoteSlot::Velocity => slots::with_velocity(matrix, curve),
+        NoteSlot::Key => slots::with_key(matrix, curve),
     }
 }
 
@@ -474,8 +474,8 @@ fn place_of(n: usize, which: CurveSlot) -> usize
     ensures { λ r. ⌜ (r ≡ placeOf n which) × (r < places) ⌝ }
 {
     match which {
-        CurveSlot::Source => tables::slot_place(n, 0),
-        CurveSlot::Aux => tables::slot_place(n, 1),
+        CurveSlot::Source => slots_tables::slot_place(n, 0),
+        CurveSlot::Aux => slots_tables::slot_place(n, 1),
     }
 }
 
@@ -502,17 +502,17 @@ pub fn set_curve(
     ensures answer { λ r. ⌜ r ≡ setCurve matrix (now (tables .entry)) n which (now (table .entry)) rise fall .answer ⌝ }
     ensures lent { λ _. ⌜ now (tables .exit) ≡ setCurve matrix (now (tables .entry)) n which (now (table .entry)) rise fall .tables ⌝ }
 {
-    let allowed = tables::curve_allowed(table, rise, fall);
-    let code = judge::first(
+    let allowed = slots_tables::curve_allowed(table, rise, fall);
+    let code = refusal::first(
         slot_code(n),
-        tables::rows_of_table(allowed, tables.len(), table.len()),
+        slots_tables::rows_of_table(allowed, tables.len(), table.len()),
     );
     if code != 0 {
         return Edited { code, matrix };
     }
     let curve = Curve::Table { rise, fall };
-    let slot = with_curve(slot::slot_of(matrix, n), which, curve);
-    tables::write_table(tables, place_of(n, which), table);
+    let slot = with_curve(slots::slot_of(matrix, n), which, curve);
+    slots_tables::write_table(tables, place_of(n, which), table);
     answer(0, matrix, n, slot)
 }
 
@@ -521,13 +521,17 @@ pub fn set_note_curve(matrix: Matrix, tables: &mut [f32], which: NoteSlot, table
     ensures answer { λ r. ⌜ r ≡ setNoteCurve matrix (now (tables .entry)) which (now (table .entry)) .answer ⌝ }
     ensures lent { λ _. ⌜ now (tables .exit) ≡ setNoteCurve matrix (now (tables .entry)) which (now (table .entry)) .tables ⌝ }
 {
-    let code = tables::rows_of_table(table::numbers_allowed(table), tables.len(), table.len());
+    let code = slots_tables::rows_of_table(
+        curve_table::numbers_allowed(table),
+        tables.len(),
+        table.len(),
+    );
     if code != 0 {
         return Edited { code, matrix };
     }
     let curve = NoteCurve::Table;
     let next = with_note(matrix, which, curve);
-    tables::write_table(tables, note_place(which), table);
+    slots_tables::write_table(tables, note_place(which), table);
     Edited {
         code: 0,
         matrix: next,
@@ -550,10 +554,10 @@ fn matrix_allowed(matrix: Matrix, tables: &[f32]) -> bool
     ensures { λ r. ⌜ r ≡ matrixAllowed matrix (now (tables .entry)) ⌝ }
 {
     let slot = matrix.slot;
-    if !slot::all_finite(slot) {
+    if !slots::all_finite(slot) {
         return false;
     }
-    tables::named_allowed(matrix, tables)
+    slots_tables::named_allowed(matrix, tables)
 }
 
 // the slots in order, their tables with them
@@ -565,9 +569,9 @@ pub fn sort(matrix: Matrix, tables: &mut [f32], by: SortBy) -> Edited
         return Edited { code: 6, matrix };
     }
     let slot = matrix.slot;
-    let places = sorting::places_by(by_source(by), slot);
-    let next = slot::with_slots(matrix, sorting::slots_at(places, slot));
-    if !tables::names_table(matrix) {
+    let places = matrix_sorting::places_by(by_source(by), slot);
+    let next = slots::with_slots(matrix, matrix_sorting::slots_at(places, slot));
+    if !slots_tables::names_table(matrix) {
         return Edited {
             code: 0,
             matrix: next,
@@ -576,7 +580,7 @@ pub fn sort(matrix: Matrix, tables: &mut [f32], by: SortBy) -> Edited
     if tables.len() < TABLES {
         return Edited { code: 14, matrix };
     }
-    sorting::move_tables(tables, places);
+    matrix_sorting::move_tables(tables, places);
     Edited {
         code: 0,
         matrix: next,
@@ -593,7 +597,7 @@ pub fn load(matrix: Matrix, tables: &mut [f32], other: Matrix, other_tables: &[f
     if !matrix_allowed(other, other_tables) {
         return Edited { code: 6, matrix };
     }
-    if !tables::names_table(other) {
+    if !slots_tables::names_table(other) {
         return Edited {
             code: 0,
             matrix: other,
@@ -605,7 +609,7 @@ pub fn load(matrix: Matrix, tables: &mut [f32], other: Matrix, other_tables: &[f
     if other_tables.len() < TABLES {
         return Edited { code: 14, matrix };
     }
-    tables::write_tables(tables, other_tables);
+    slots_tables::write_tables(tables, other_tables);
     Edited {
         code: 0,
         matrix: other,

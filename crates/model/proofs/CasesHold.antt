@@ -5,12 +5,12 @@ use mathlib.Core.Logic.{⊎-elim}
 use lib.Ieee.{toBits, add, sub, mul, div, neg, lt, eq, isNan, ofInt, toUnsigned}
 use Rattle.number.specs.Number.{max32, min32, clampTo}
 use Rattle.draw.specs.Xorshift.{step}
-use Rattle.table.specs.Table.{lookupOf, position, cellOf, partOf}
+use Rattle.curve_table.specs.Table.{lookupOf, position, cellOf, partOf}
 use Rattle.slew.specs.Slew.{ratePerSample, reach, moved, slewStep}
 use Rattle.list.specs.Padded.{padded}
-use Rattle.table.specs.Curve.{secondsOf}
+use Rattle.curve_table.specs.Curve.{secondsOf}
 use Rattle.feed.specs.Order.{order}
-use Rattle.slot.specs.Slots.{keptAmount}
+use Rattle.slots.specs.Slots.{keptAmount}
 use Rattle.state.specs.Registry.{targetPlace}
 use Rattle.model.specs.Wiring.{verdict, verdictsFrom, verdicts, candidates, skippedOf}
 use Rattle.model.specs.Feeds.{inUse, countedFeed, usedDests, feederOf, readersOf, reads, hearsAudio, isAudio, controls, audios, planOrder}
@@ -18,14 +18,14 @@ use Rattle.model.specs.Routes.{slewFor, inputBy, routeBy, routeIn}
 use Rattle.model.specs.Plans.{planBy, plansOf, allRoutes, compiled}
 use lib.Ieee.{le, ne}
 use Rattle.number.specs.Number.{absOf, hold, finite}
-use Rattle.judge.specs.Judge.{judged}
+use Rattle.refusal.specs.Judge.{judged}
 use Rattle.list.specs.Fill.{fill}
 use Rattle.list.specs.Part.{part, onPart}
 use Rattle.voice.specs.Voices.{noVoices, ranksOn, soundedOn, endedOf, newestAfter, activeCount, isSounding}
 use Rattle.voice.specs.Marks.{noMarks, marksOn, marksEnded, marksSwapped, marksCleared}
 use Rattle.voice.specs.Notes.{noNotes, advanced, moving, movedValue, movedGlide, setNote, setValue, setGlide, legatoTime, endedNote, arrives, moved as glideMoved}
 use Rattle.voice.specs.Joined.{joined}
-use Rattle.tables.specs.Tables.{slotNames, anyNames, namesTable}
+use Rattle.slots_tables.specs.Tables.{slotNames, anyNames, namesTable}
 use Rattle.model.specs.Compile.{emptyOf}
 use Rattle.model.specs.Counts.{planAt, routeAt}
 use Rattle.model.specs.Env.{sampleIn}
@@ -43,7 +43,7 @@ use Rattle.model.specs.Process.{movedHeld, glided, drawVoices, drawRoute
 use Rattle.model.specs.Settings.{doneBy, freshState, setBase, swapProgram, setHeld, setVoiceHeld, setAmount, setOutput, setVoiceLimit}
 use Rattle.draw.specs.Xorshift.{scrambled, drawBits, drawOf}
 use Rattle.list.specs.Rows.{rowAt, onRow}
-use Rattle.slot.specs.Slots.{keptOutput}
+use Rattle.slots.specs.Slots.{keptOutput}
 use Rattle.model.specs.NoteCalls.{noteCurve, randomsSet, alternates, noteOn, noteOff, voiceEnded}
 use Rattle.model.specs.Outputs.{fromPart, toPart}
 use Rattle.model.specs.Calls.{run}

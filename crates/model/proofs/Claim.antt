@@ -11,7 +11,7 @@ use lib.Ieee.{Float}
 use borrow.Author.Tests.{eq-eqb}
 use Rattle.config.specs.Sizes.{slots}
 use Rattle.config.specs.declared.Config.{Config}
-use Rattle.judge.specs.Judge.{judged}
+use Rattle.refusal.specs.Judge.{judged}
 use Rattle.feed.proofs.Acyclic.{ordered-exactly}
 use Rattle.state.specs.declared.Sources.{Sources}
 use Rattle.state.specs.declared.Destinations.{Destinations}

@@ -16,7 +16,7 @@ use Rattle.number.specs.Number.{zero32, absOf, nearest32}
 use Rattle.number.specs.Same.{_≈_, equal, zeros}
 use Rattle.number.proofs.Same.{same-of-eq}
 use Rattle.number.proofs.Respects.{plus-same, less-same, times-same, min-same, max-same, hold-same, clamp-same, whole-part-same}
-use Rattle.table.specs.Table.{lastCell, position, cellOf, partOf, lookupOf}
+use Rattle.curve_table.specs.Table.{lastCell, position, cellOf, partOf, lookupOf}
 use Rattle.slew.specs.Slew.{moved, slewStep}
 use Rattle.model.proofs.Respects.{Respected}
 

@@ -14,7 +14,7 @@ use Rattle.feed.specs.Order.{order}
 use Rattle.feed.proofs.Count.{in-at}
 use Rattle.feed.proofs.Index.{at-index, index-at}
 use Rattle.feed.proofs.Placed.{order-length, order-in}
-use Rattle.filled.specs.Filled.{noPlan, noRoute}
+use Rattle.state_filled.specs.Filled.{noPlan, noRoute}
 use Rattle.state.specs.declared.Candidate.{Candidate}
 use Rattle.state.specs.declared.Plan.{Plan}
 use Rattle.state.specs.declared.Route.{Route}

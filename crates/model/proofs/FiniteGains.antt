@@ -8,11 +8,11 @@ use native.Mathlib.Omega.{arith}
 use lib.Dec.{eqb, ltb}
 use lib.Ieee.{Float}
 use Rattle.number.specs.Number.{one32, finite}
-use Rattle.judge.specs.Judge.{Row, judged, _when_}
+use Rattle.refusal.specs.Judge.{Row, judged, _when_}
 use Rattle.config.specs.Configuration.{configRows, configCode}
 use Rattle.config.specs.declared.Config.{Config}
-use Rattle.tables.specs.Tables.{namedAllowed}
-use Rattle.slot.specs.Slots.{numbersFinite, allFinite}
+use Rattle.slots_tables.specs.Tables.{namedAllowed}
+use Rattle.slots.specs.Slots.{numbersFinite, allFinite}
 use Rattle.state.specs.declared.Slot.{Slot}
 use Rattle.state.specs.declared.Program.{Program}
 use Rattle.state.specs.declared.State.{State}

@@ -6,15 +6,15 @@ use mathlib.Core.List.{List, []}
 use borrow.Author.Tests.{ne-eqb}
 use lib.Ieee.{Float}
 use Rattle.config.specs.declared.Config.{Config}
-use Rattle.judge.specs.Judge.{judged}
+use Rattle.refusal.specs.Judge.{judged}
 use Rattle.list.specs.Padded.{padded}
 use Rattle.feed.specs.Order.{order}
 use Rattle.state.specs.declared.Source.{Source}
 use Rattle.state.specs.declared.Dest.{Dest}
 use Rattle.state.specs.declared.Wiring.{Wiring}
-use Rattle.slot.specs.Slots.{emptySlot}
-use Rattle.slot.specs.Matrix.{newMatrix}
-use Rattle.tables.specs.Tables.{slotNames, anyNames, namesTable}
+use Rattle.slots.specs.Slots.{emptySlot}
+use Rattle.slots.specs.Matrix.{newMatrix}
+use Rattle.slots_tables.specs.Tables.{slotNames, anyNames, namesTable}
 use Rattle.model.specs.Wiring.{verdict, verdictsFrom, verdicts, candidates, skippedOf}
 use Rattle.model.specs.Feeds.{inUse, controls, audios, reads, readersOf, isAudio, planOrder}
 use Rattle.model.specs.Plans.{plansOf, allRoutes, compiled}

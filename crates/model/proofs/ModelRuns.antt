@@ -11,7 +11,7 @@ use lib.Ieee.{Float}
 use borrow.Author.Tests.{eqb-true, ltb-false}
 use Rattle.config.specs.Sizes.{mostVoices, mostFrames}
 use Rattle.config.specs.declared.Config.{Config}
-use Rattle.judge.specs.Judge.{_when_, judged}
+use Rattle.refusal.specs.Judge.{_when_, judged}
 use Rattle.feed.proofs.Tests.{which, or-false-l, or-false-r, and-true-l, and-true-r}
 use Rattle.state.specs.declared.Block.{Block}
 use Rattle.state.specs.declared.Chunk.{Chunk}

@@ -19,10 +19,10 @@ use Rattle.voice.specs.Voices.{soundedOn}
 use Rattle.voice.specs.Marks.{marksOn}
 use Rattle.voice.specs.Notes.{setNote}
 use Rattle.config.specs.declared.Config.{Config}
-use Rattle.judge.specs.Judge.{Row, judged}
+use Rattle.refusal.specs.Judge.{Row, judged}
 use Rattle.feed.proofs.Tests.{which, or-false-l, or-false-r}
-use Rattle.slot.specs.Slots.{emptySlot}
-use Rattle.slot.specs.Matrix.{newMatrix}
+use Rattle.slots.specs.Slots.{emptySlot}
+use Rattle.slots.specs.Matrix.{newMatrix}
 use Rattle.state.specs.declared.Sources.{Sources}
 use Rattle.state.specs.declared.Destinations.{Destinations}
 use Rattle.state.specs.declared.Signals.{Signals}

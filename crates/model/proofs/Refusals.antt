@@ -12,8 +12,8 @@ use lib.Ieee.{Float}
 use borrow.Author.Tests.{eq-eqb, ne-eqb}
 use Rattle.config.specs.Sizes.{mostSignalStride}
 use Rattle.config.specs.declared.Config.{Config}
-use Rattle.judge.specs.Judge.{Row, First, _when_, judged}
-use Rattle.judge.proofs.Laws.{judged-none, judged-first}
+use Rattle.refusal.specs.Judge.{Row, First, _when_, judged}
+use Rattle.refusal.proofs.Laws.{judged-none, judged-first}
 use Rattle.feed.proofs.Tests.{which}
 use Rattle.state.specs.declared.Sources.{Sources}
 use Rattle.state.specs.declared.Destinations.{Destinations}

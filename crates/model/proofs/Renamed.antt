@@ -7,7 +7,7 @@ use Prim.Native.Nat.{ℕ, zero, suc, _≤_, _<_}
 use native.Mathlib.Omega.{arith}
 use lib.Ieee.{Float}
 use Rattle.feed.specs.Numbers.{indexOf}
-use Rattle.table.specs.declared.Curve.{Curve}
+use Rattle.curve_table.specs.declared.Curve.{Curve}
 use Rattle.state.specs.declared.Kind.{Kind}
 use Rattle.state.specs.declared.Kind.the-variants as K
 use Rattle.state.specs.declared.Source.{Source}

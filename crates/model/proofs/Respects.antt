@@ -11,7 +11,7 @@ use lib.Ieee.{Float, nan}
 use borrow.Author.Tests.{ltb-true}
 use Rattle.feed.proofs.Tests.{which}
 use Rattle.number.specs.Number as N
-use Rattle.table.specs.Table.{lookupOf}
+use Rattle.curve_table.specs.Table.{lookupOf}
 use Rattle.slew.specs.Slew.{slewStep}
 use Rattle.state.specs.declared.Read.{Read}
 use Rattle.state.specs.declared.Read.the-variants as D

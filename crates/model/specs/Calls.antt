@@ -16,7 +16,7 @@ use Rattle.model.specs.Plans.{compiled}
 use Rattle.model.specs.Compile.{emptyOf, programValues, programAudio}
 use Rattle.model.specs.Counts.{strideOf, engineSources, engineDests}
 use Rattle.model.specs.World.{World}
-use Rattle.judge.specs.Judge.{Row}
+use Rattle.refusal.specs.Judge.{Row}
 use Rattle.model.specs.Process.{process, processRows}
 use Rattle.model.specs.Settings.{freshState, heldRows, voiceHeldRows, baseRows, gainRows, swapRows, setHeld, setVoiceHeld, setBase, setAmount, setOutput, setVoiceLimit, swapProgram}
 use Rattle.model.specs.NoteCalls.{Note, noteOnRows, noteOffRows, voiceEndedRows, noteOn, noteOff, voiceEnded}

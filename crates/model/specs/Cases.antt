@@ -9,8 +9,8 @@ use lib.Ieee.{Float, fin, inf, binary32, toBits}
 use Rattle.number.specs.Number.{zero32, half32, one32, plus, times}
 use Rattle.draw.specs.Xorshift.{step}
 use Rattle.config.specs.Sizes.{laneStride}
-use Rattle.table.specs.Table.{lookupOf, tabulated, diagonalAt}
-use Rattle.table.specs.declared.Curve.the-variants as C
+use Rattle.curve_table.specs.Table.{lookupOf, tabulated, diagonalAt}
+use Rattle.curve_table.specs.declared.Curve.the-variants as C
 use Rattle.slew.specs.Slew.{ratePerSample, reach, slewStep}
 use Rattle.state.specs.declared.Kind.{Kind}
 use Rattle.state.specs.declared.Kind.the-variants as K
@@ -33,8 +33,8 @@ use Rattle.state.specs.declared.Plan.{Plan}
 use Rattle.state.specs.declared.Route.{Route}
 use Rattle.state.specs.declared.Program.{Program}
 use Rattle.state.specs.declared.Wiring.{Wiring}
-use Rattle.slot.specs.Slots.{keptAmount}
-use Rattle.filled.specs.Filled.{noRoute}
+use Rattle.slots.specs.Slots.{keptAmount}
+use Rattle.state_filled.specs.Filled.{noRoute}
 use Rattle.voice.specs.declared.Legato.the-variants as W
 use Rattle.voice.specs.Notes.{noNotes, setNote, advanced, valueOf, glideOf}
 use Rattle.state.specs.declared.Chunk.{Chunk}

@@ -19,7 +19,7 @@ use Rattle.state.specs.declared.Signals.{Signals}
 use Rattle.state.specs.declared.State.{State}
 use Rattle.state.specs.declared.Wiring.{Wiring}
 use Rattle.state.specs.Registry.{noSource, noDest}
-use Rattle.slot.specs.Matrix.{newMatrix}
+use Rattle.slots.specs.Matrix.{newMatrix}
 use Rattle.model.specs.Feeds.{countedInto, controls}
 use Rattle.model.specs.Plans.{compiled}
 use Rattle.model.specs.Env.{Env, Rows}

@@ -9,7 +9,7 @@ use lib.Ieee.{Float}
 use Rattle.config.specs.Sizes.{slots}
 use Rattle.config.specs.Configuration.{configRows, configCode}
 use Rattle.config.specs.declared.Config.{Config}
-use Rattle.judge.specs.Judge.{Row, _when_, judged}
+use Rattle.refusal.specs.Judge.{Row, _when_, judged}
 use Rattle.list.specs.Part.{onPart}
 use Rattle.number.specs.Number.{zero32, one32}
 use Rattle.state.specs.declared.NoteCurve.the-variants as N
@@ -17,9 +17,9 @@ use Rattle.state.specs.declared.Matrix.{Matrix}
 use Rattle.state.specs.declared.Program.{Program}
 use Rattle.state.specs.declared.Compiled.{Compiled}
 use Rattle.state.specs.declared.Wiring.{Wiring}
-use Rattle.filled.specs.Filled.{noPlan, noRoute, noSkip}
-use Rattle.slot.specs.Slots.{allFinite}
-use Rattle.tables.specs.Tables.{tablesNeed, withTables, namesTable, namedAllowed}
+use Rattle.state_filled.specs.Filled.{noPlan, noRoute, noSkip}
+use Rattle.slots.specs.Slots.{allFinite}
+use Rattle.slots_tables.specs.Tables.{tablesNeed, withTables, namesTable, namedAllowed}
 use Rattle.model.specs.Plans.{compiled}
 use Rattle.model.specs.Need.{valuesNeed, audioNeed}
 

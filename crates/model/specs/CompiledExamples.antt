@@ -7,8 +7,8 @@ use lib.IntN.{pos, negsuc}
 use lib.ListN.{length}
 use lib.Ieee.{Float, nan, inf, fin, lt, eq, mul, div, isNan}
 use Rattle.number.specs.Number.{max32}
-use Rattle.table.specs.declared.Curve.the-variants as C
-use Rattle.table.specs.Curve.{secondsOf}
+use Rattle.curve_table.specs.declared.Curve.the-variants as C
+use Rattle.curve_table.specs.Curve.{secondsOf}
 use Rattle.slew.specs.Slew.{ratePerSample}
 use Rattle.feed.specs.Order.{order}
 use Rattle.state.specs.declared.Kind.{Kind}

@@ -8,7 +8,7 @@ use Rattle.state.specs.declared.Plan.{Plan}
 use Rattle.state.specs.declared.Route.{Route}
 use Rattle.state.specs.declared.Program.{Program}
 use Rattle.state.specs.declared.State.{State}
-use Rattle.filled.specs.Filled.{noPlan, noRoute}
+use Rattle.state_filled.specs.Filled.{noPlan, noRoute}
 
 abbrev pub voiceCount : State → ℕ
 voiceCount st = min (st .config .voices) mostVoices

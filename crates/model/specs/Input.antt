@@ -5,14 +5,14 @@ use Prim.Native.Nat.{ℕ, _+_, _*_}
 use lib.Ieee.{Float}
 use Rattle.list.specs.Rows.{rowAt}
 use Rattle.number.specs.Number.{one32, half32, plus, times}
-use Rattle.table.specs.Table.{points, lookupOf}
+use Rattle.curve_table.specs.Table.{points, lookupOf}
 use Rattle.slew.specs.Slew.{reach, slewStep}
 use Rattle.state.specs.declared.Read.{Read}
 use Rattle.state.specs.declared.Read.the-variants as D
 use Rattle.state.specs.declared.Slew.{Slew}
 use Rattle.state.specs.declared.Slew.the-variants as L
 use Rattle.state.specs.declared.Input.{Input}
-use Rattle.tables.specs.Tables.{slotPlace}
+use Rattle.slots_tables.specs.Tables.{slotPlace}
 use Rattle.model.specs.Counts.{at}
 use Rattle.model.specs.Env.{Env, Rows, laneIn, partOf, sampleIn}
 

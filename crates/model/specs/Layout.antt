@@ -8,7 +8,7 @@ use lib.Dec.{eqb}
 use lib.ListN.{getD}
 use Rattle.config.specs.Sizes.{laneStride, mostChunks}
 use Rattle.state.specs.declared.Program.{Program}
-use Rattle.filled.specs.Filled.{noPlan}
+use Rattle.state_filled.specs.Filled.{noPlan}
 use Rattle.model.specs.Need.{valuesRows}
 
 -- ---- places

@@ -7,11 +7,11 @@ use lib.ListN.{length, set}
 use lib.IntN.{pos}
 use lib.Ieee.{Float, fin}
 use Rattle.draw.specs.Xorshift.{step, drawOf}
-use Rattle.judge.specs.Judge.{Row, _when_, judged}
+use Rattle.refusal.specs.Judge.{Row, _when_, judged}
 use Rattle.list.specs.Rows.{rowAt}
 use Rattle.number.specs.Number.{zero32, one32, over, finite}
-use Rattle.table.specs.Table.{points, lookupOf, cellOf, partOf, between, diagonalAt}
-use Rattle.tables.specs.Tables.{velocityPlace, keyPlace}
+use Rattle.curve_table.specs.Table.{points, lookupOf, cellOf, partOf, between, diagonalAt}
+use Rattle.slots_tables.specs.Tables.{velocityPlace, keyPlace}
 use Rattle.voice.specs.declared.Legato.{Legato}
 use Rattle.voice.specs.declared.Notes.{Notes}
 use Rattle.voice.specs.Voices.{soundedOn, endedOf, isSounding}

@@ -8,7 +8,7 @@ use lib.ListN.{length, getD, take}
 use lib.Ieee.{Float, nan}
 use Rattle.config.specs.Sizes.{period, mostDestinations}
 use Rattle.feed.specs.Numbers.{upFrom}
-use Rattle.judge.specs.Judge.{Row, _when_, judged}
+use Rattle.refusal.specs.Judge.{Row, _when_, judged}
 use Rattle.list.specs.Part.{part, onPart}
 use Rattle.number.specs.Number.{plus, less, times, over, nearest32}
 use Rattle.voice.specs.Voices.{isSounding}

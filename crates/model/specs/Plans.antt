@@ -20,8 +20,8 @@ use Rattle.state.specs.declared.Wiring.{Wiring}
 use Rattle.state.specs.declared.Candidate.{Candidate}
 use Rattle.state.specs.declared.Reader.{Reader}
 use Rattle.state.specs.Registry.{sourceCount, destCount, destAt}
-use Rattle.filled.specs.Filled.{noPlan, noRoute, noSkip}
-use Rattle.tables.specs.Tables.{namesTable}
+use Rattle.state_filled.specs.Filled.{noPlan, noRoute, noSkip}
+use Rattle.slots_tables.specs.Tables.{namesTable}
 use Rattle.model.specs.Wiring.{candidates, skippedOf}
 use Rattle.model.specs.Feeds.{isVoice, counted, hearsAudio, audioIn, readersOf, controls, planOrder}
 use Rattle.model.specs.Routes.{routeIn, routesIn}

@@ -8,7 +8,7 @@ use lib.ListN.{length, getD, set, take}
 use lib.Ieee.{Float}
 use Rattle.config.specs.Sizes.{period, mostSignalStride}
 use Rattle.draw.specs.Xorshift.{step, drawOf}
-use Rattle.judge.specs.Judge.{Row, _when_, judged}
+use Rattle.refusal.specs.Judge.{Row, _when_, judged}
 use Rattle.number.specs.Number.{zero32, one32, over, min32, nearest32}
 use Rattle.voice.specs.declared.Notes.{Notes}
 use Rattle.voice.specs.Voices.{activeCount}
@@ -24,7 +24,7 @@ use Rattle.state.specs.declared.Chunk.{Chunk}
 use Rattle.state.specs.declared.SignalPart.{SignalPart}
 use Rattle.state.specs.declared.Signals.{Signals}
 use Rattle.state.specs.declared.State.{State}
-use Rattle.tables.specs.Tables.{tablesNeed}
+use Rattle.slots_tables.specs.Tables.{tablesNeed}
 use Rattle.model.specs.Need.{valuesNeed, audioNeed}
 use Rattle.model.specs.Counts.{voiceCount, frameCount, strideOf, chunksMost, engineSources, engineDests, planTotal, controlTotal, routeTotal, phaseOf, planAt, routeAt}
 use Rattle.model.specs.Env.{Env}

@@ -6,9 +6,9 @@ use lib.IntN.{pos}
 use lib.ListN.{getD}
 use lib.Ieee.{Float, nan, fin, lt}
 use Rattle.number.specs.Number.{zero32, half32, one32, two32}
-use Rattle.table.specs.declared.Curve.{Curve}
-use Rattle.table.specs.declared.Curve.the-variants as C
-use Rattle.table.specs.Curve.{isLinear, secondsOf}
+use Rattle.curve_table.specs.declared.Curve.{Curve}
+use Rattle.curve_table.specs.declared.Curve.the-variants as C
+use Rattle.curve_table.specs.Curve.{isLinear, secondsOf}
 use Rattle.slew.specs.Slew.{ratePerSample}
 use Rattle.feed.specs.Numbers.{indexOf}
 use Rattle.state.specs.declared.Kind.{Kind}

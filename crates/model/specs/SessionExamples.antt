@@ -7,11 +7,11 @@ use lib.IntN.{pos, negsuc}
 use lib.ListN.{length, replicate}
 use lib.Ieee.{Float, nan, inf, fin, lt, le, eq, ne, add, sub, mul, div, isNan, ofInt}
 use Rattle.number.specs.Number.{zero32, half32, one32, absOf, hold, max32, min32, finite, clampTo}
-use Rattle.table.specs.declared.Curve.the-variants as C
-use Rattle.table.specs.Curve.{secondsOf}
+use Rattle.curve_table.specs.declared.Curve.the-variants as C
+use Rattle.curve_table.specs.Curve.{secondsOf}
 use Rattle.slew.specs.Slew.{ratePerSample}
 use Rattle.feed.specs.Order.{order}
-use Rattle.judge.specs.Judge.{judged}
+use Rattle.refusal.specs.Judge.{judged}
 use Rattle.list.specs.Fill.{fill}
 use Rattle.list.specs.Part.{part, onPart}
 use Rattle.list.specs.Padded.{padded}
@@ -36,7 +36,7 @@ use Rattle.state.specs.declared.Signals.{Signals}
 use Rattle.state.specs.declared.State.{State}
 use Rattle.state.specs.declared.Wiring.{Wiring}
 use Rattle.state.specs.Registry.{targetPlace}
-use Rattle.tables.specs.Tables.{slotNames, anyNames, namesTable}
+use Rattle.slots_tables.specs.Tables.{slotNames, anyNames, namesTable}
 use Rattle.model.specs.Wiring.{verdict, verdictsFrom, verdicts, candidates, skippedOf}
 use Rattle.model.specs.Feeds.{inUse, countedFeed, usedDests, feederOf, readersOf, reads, hearsAudio, isAudio, controls, audios, planOrder}
 use Rattle.model.specs.Routes.{slewFor, inputBy, routeBy, routeIn}
@@ -61,11 +61,11 @@ use lib.Dec.{ltb}
 use mathlib.Core.Bool.{cond}
 use mathlib.Core.List.{_++_}
 use lib.Ieee.{binary32, toBits, toUnsigned, neg}
-use Rattle.table.specs.Table.{tabulated, diagonalAt, lookupOf, position, cellOf, partOf as partOfCell}
+use Rattle.curve_table.specs.Table.{tabulated, diagonalAt, lookupOf, position, cellOf, partOf as partOfCell}
 use Rattle.slew.specs.Slew.{reach, moved, slewStep}
 use Rattle.draw.specs.Xorshift.{step, scrambled, drawBits, drawOf}
 use Rattle.list.specs.Rows.{rowAt, onRow}
-use Rattle.slot.specs.Slots.{keptAmount, keptOutput}
+use Rattle.slots.specs.Slots.{keptAmount, keptOutput}
 use Rattle.config.specs.declared.Config.{Config}
 use Rattle.state.specs.declared.Kind.{Kind}
 use Rattle.state.specs.declared.Scope.{Scope}

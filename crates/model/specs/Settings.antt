@@ -8,10 +8,10 @@ use lib.Ieee.{Float, eq}
 use Rattle.config.specs.Sizes.{slots, mostSources, mostDestinations, mostSignalStride}
 use Rattle.config.specs.Configuration.{configRows}
 use Rattle.config.specs.declared.Config.{Config}
-use Rattle.judge.specs.Judge.{Row, _when_, judged}
+use Rattle.refusal.specs.Judge.{Row, _when_, judged}
 use Rattle.list.specs.Rows.{onRow}
 use Rattle.number.specs.Number.{zero32, one32, finite}
-use Rattle.slot.specs.Slots.{keptAmount, keptOutput}
+use Rattle.slots.specs.Slots.{keptAmount, keptOutput}
 use Rattle.voice.specs.Voices.{noVoices}
 use Rattle.voice.specs.Marks.{noMarks, marksSwapped}
 use Rattle.voice.specs.Notes.{noNotes}

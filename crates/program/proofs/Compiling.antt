@@ -12,13 +12,13 @@ use lib.Ieee.{Float}
 use Rattle.config.specs.Sizes.{slots, mostVoices, mostFrames}
 use Rattle.config.specs.Configuration.{configRows, configCode}
 use Rattle.config.proofs.Accepted.{Accepted, accepted}
-use Rattle.judge.specs.Judge.{firstOf, judged, _when_}
-use Rattle.judge.proofs.Laws.{firstOf-zero, firstOf-code, judged-append, judged-row, judged-taken, judged-passed, judged-none}
+use Rattle.refusal.specs.Judge.{firstOf, judged, _when_}
+use Rattle.refusal.proofs.Laws.{firstOf-zero, firstOf-code, judged-append, judged-row, judged-taken, judged-passed, judged-none}
 use Rattle.number.specs.Number.{one32}
 use Rattle.state.specs.declared.Program.{Program}
 use Rattle.state.specs.declared.Compiled.{Compiled}
 use Rattle.state.specs.declared.Wiring.{Wiring}
-use Rattle.tables.specs.Tables.{tablesNeed, withTables, namesTable}
+use Rattle.slots_tables.specs.Tables.{tablesNeed, withTables, namesTable}
 use Rattle.model.specs.Need.{valuesNeed, audioNeed}
 use Rattle.model.specs.Wiring.{candidates}
 use Rattle.model.specs.Feeds.{planOrder}

@@ -5,14 +5,14 @@ use mathlib.Core.List.{List, [], _∷_, map}
 use Prim.Native.Nat.{ℕ}
 use lib.Dec.{eqb, ltb}
 use lib.ListN.{getD, take}
-use Rattle.judge.specs.Judge.{judged}
+use Rattle.refusal.specs.Judge.{judged}
 use Rattle.reply.specs.Reply.{Reply, accepts, only, byRows}
 use Rattle.state.specs.declared.Plan.{Plan}
 use Rattle.state.specs.declared.Route.{Route}
 use Rattle.state.specs.declared.Skipped.{Skipped}
 use Rattle.state.specs.declared.Rate.the-variants as R
 use Rattle.state.specs.declared.Program.{Program}
-use Rattle.filled.specs.Filled.{noPlan, noRoute, noSkip}
+use Rattle.state_filled.specs.Filled.{noPlan, noRoute, noSkip}
 use Rattle.program.specs.declared.PlanRead.{PlanRead}
 use Rattle.program.specs.declared.PlanRead.the-variants as P
 use Rattle.program.specs.declared.RouteRead.{RouteRead}

@@ -8,13 +8,13 @@ use lib.ListN.{replicate}
 use lib.Ieee.{Float, nan, fin, le}
 use Rattle.config.specs.declared.Config.{Config}
 use Rattle.feed.specs.Order.{order}
-use Rattle.judge.specs.Judge.{judged}
+use Rattle.refusal.specs.Judge.{judged}
 use Rattle.list.specs.Padded.{padded}
 use Rattle.list.specs.Part.{part, onPart}
 use Rattle.list.specs.Rows.{rowAt}
 use Rattle.number.specs.Number.{zero32, one32, finite}
-use Rattle.table.specs.Table.{allowed, allAllowed}
-use Rattle.table.specs.Curve.{secondsFinite}
+use Rattle.curve_table.specs.Table.{allowed, allAllowed}
+use Rattle.curve_table.specs.Curve.{secondsFinite}
 use Rattle.state.specs.declared.NoteCurve.the-variants as N
 use Rattle.state.specs.declared.Base.the-variants as B
 use Rattle.state.specs.declared.Reason.the-variants as E
@@ -22,9 +22,9 @@ use Rattle.state.specs.declared.Plan.{Plan}
 use Rattle.state.specs.declared.Matrix.{Matrix}
 use Rattle.state.specs.declared.Program.{Program}
 use Rattle.state.specs.declared.Wiring.{Wiring}
-use Rattle.slot.specs.Slots.{emptySlot, numbersFinite, allFinite, withAmount}
-use Rattle.slot.specs.Matrix.{newMatrix, withSlots, withSlot, withVelocity}
-use Rattle.tables.specs.Tables.{slotNames, anyNames, namesTable, placeAllowed, slotAllowed, slotsAllowed, namedAllowed}
+use Rattle.slots.specs.Slots.{emptySlot, numbersFinite, allFinite, withAmount}
+use Rattle.slots.specs.Matrix.{newMatrix, withSlots, withSlot, withVelocity}
+use Rattle.slots_tables.specs.Tables.{slotNames, anyNames, namesTable, placeAllowed, slotAllowed, slotsAllowed, namedAllowed}
 use Rattle.model.specs.Wiring.{verdict, verdictsFrom, verdicts, candidates, skippedOf}
 use Rattle.model.specs.Feeds.{inUse, controls, audios, reads, readersOf, isAudio, planOrder}
 use Rattle.model.specs.Plans.{plansOf, allRoutes, compiled}

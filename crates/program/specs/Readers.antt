@@ -8,7 +8,7 @@ use Rattle.config.specs.Sizes.{slots}
 use Rattle.config.specs.declared.Config.{Config}
 use Rattle.state.specs.declared.Plan.{Plan}
 use Rattle.state.specs.declared.Program.{Program}
-use Rattle.filled.specs.Filled.{noPlan, noRoute, noSkip}
+use Rattle.state_filled.specs.Filled.{noPlan, noRoute, noSkip}
 use Rattle.program.specs.declared.PlanRead.{PlanRead}
 use Rattle.program.specs.declared.PlanRead.the-variants as P
 use Rattle.program.specs.declared.RouteRead.{RouteRead}

@@ -12,7 +12,7 @@ use Rattle.state.specs.declared.Skipped.{Skipped}
 use Rattle.state.specs.declared.Rate.{Rate}
 use Rattle.state.specs.declared.Rate.the-variants as R
 use Rattle.state.specs.declared.Program.{Program}
-use Rattle.filled.specs.Filled.{noPlan, noRoute, noSkip}
+use Rattle.state_filled.specs.Filled.{noPlan, noRoute, noSkip}
 use Rattle.program.specs.declared.PlanRead.{PlanRead}
 use Rattle.program.specs.declared.PlanRead.the-variants as P
 use Rattle.program.specs.declared.RouteRead.{RouteRead}

@@ -8,10 +8,10 @@ use lib.Ieee.{Float}
 use Rattle.config.specs.Sizes.{slots, mostVoices, mostFrames}
 use Rattle.config.specs.Configuration.{configCode}
 use Rattle.config.specs.declared.Config.{Config}
-use Rattle.judge.specs.Judge.{firstOf, judged, _when_}
+use Rattle.refusal.specs.Judge.{firstOf, judged, _when_}
 use Rattle.state.specs.declared.Matrix.{Matrix}
 use Rattle.state.specs.declared.Program.{Program}
-use Rattle.tables.specs.Tables.{tablesNeed, withTables}
+use Rattle.slots_tables.specs.Tables.{tablesNeed, withTables}
 use Rattle.model.specs.Need.{valuesNeed, audioNeed}
 use Rattle.model.specs.Compile.{numbersAllowed}
 

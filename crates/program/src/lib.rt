@@ -5,7 +5,7 @@ ghost use lib.Dec.{ltb};
 ghost use lib.ListN.{length};
 ghost use Rattle.config.specs.Configuration.{configCode};
 ghost use Rattle.number.specs.Number.{one32};
-ghost use Rattle.tables.specs.Tables.{tablesNeed};
+ghost use Rattle.slots_tables.specs.Tables.{tablesNeed};
 ghost use Rattle.model.specs.Compile.{emptyOf, emptyProgram, numbersAllowed, compile};
 ghost use Rattle.program.specs.Sizes.{strideCall, maxChunksCall};
 ghost use Rattle.program.specs.Replies.{planReply, routeReply, skippedReply, rateReply};
@@ -13,6 +13,7 @@ ghost use Rattle.program.specs.Replies.{planSays, routeSays, skippedSays
 ghost use Rattle.program.specs.Readers.{routeCount, planCount, planAt, routeAt, skipCount, skippedAt, rateBy, rateOf, configOf};
 ghost use Rattle.program.specs.Steps.{earlyCode, heldValues, heldAudio, copied};
 use config::Config;
+use slots_tables::TABLES;
 use state::Compiled;
 use state::Destinations;
 use state::Matrix;
@@ -21,7 +22,6 @@ use state::Program;
 use state::Route;
 use state::Skipped;
 use state::Sources;
-use tables::TABLES;
 
 // A number, or the row by which it is refused, with 0.
 pub struct Count {
@@ -72,7 +72,7 @@ fn refused(code: u8) -> Compiled
     };
     Compiled {
         code,
-        program: compiler::empty_of(none),
+        program: compile::empty_of(none),
     }
 }
 
@@ -92,7 +92,7 @@ pub fn empty(config: Config) -> Compiled
     }
     Compiled {
         code: 0,
-        program: compiler::empty_of(config),
+        program: compile::empty_of(config),
     }
 }
 
@@ -101,19 +101,19 @@ fn numbers_allowed(matrix: Matrix, tables: &[f32]) -> bool
     ensures { λ r. ⌜ r ≡ numbersAllowed matrix (now (tables .entry)) ⌝ }
 {
     let slot = matrix.slot;
-    if !slot::all_finite(slot) {
+    if !slots::all_finite(slot) {
         return false;
     }
-    tables::named_allowed(matrix, tables)
+    slots_tables::named_allowed(matrix, tables)
 }
 
 // rows 6 and 13
 fn early_code(matrix: Matrix, tables: &[f32], config: Config) -> u8
     ensures { λ r. ⌜ r ≡ earlyCode matrix (now (tables .entry)) config ⌝ }
 {
-    let numbers = judge::row(!numbers_allowed(matrix, tables), 6);
+    let numbers = refusal::row(!numbers_allowed(matrix, tables), 6);
     let range = config_code(config);
-    judge::first(numbers, range)
+    refusal::first(numbers, range)
 }
 
 // row 14 of the tables, by their lengths
@@ -144,7 +144,7 @@ fn values_need(program: Program) -> usize
     ensures { λ r. ⌜ r ≡ heldValues program ⌝ }
 {
     let config = program.config;
-    need::values(
+    layout::values(
         config.voices,
         config.max_frames,
         program.plans,
@@ -157,7 +157,7 @@ fn audio_need(program: Program) -> usize
     ensures { λ r. ⌜ r ≡ heldAudio program ⌝ }
 {
     let config = program.config;
-    need::audio(config.voices, config.max_frames, program.plans)
+    layout::audio(config.voices, config.max_frames, program.plans)
 }
 
 // the matrix's tables into the program's, where a table is named and both memories are long enough
@@ -173,7 +173,7 @@ fn copy_tables(named: bool, tables: &mut [f32], from: &[f32])
     if from.len() < TABLES {
         return;
     }
-    tables::write_tables(tables, from);
+    slots_tables::write_tables(tables, from);
 }
 
 // The program of matrix, registries and configuration, its memories set to 0 and its tables copied.
@@ -194,15 +194,15 @@ pub fn compile(
     if early != 0 {
         return refused(early);
     }
-    let program = compiler::compiled(matrix, sources, dests, config);
+    let program = compile::compiled(matrix, sources, dests, config);
     if tables_short(program.tabled, matrix_tables.len(), tables.len()) {
         return refused(14);
     }
     if memory_short(program, values.len(), audio.len()) {
         return refused(14);
     }
-    compiler::zero(values, values_need(program));
-    compiler::zero(audio, audio_need(program));
+    compile::zero(values, values_need(program));
+    compile::zero(audio, audio_need(program));
     copy_tables(program.tabled, tables, matrix_tables);
     Compiled { code: 0, program }
 }
@@ -234,14 +234,14 @@ pub enum RateRead {
 pub fn route_count(program: Program) -> usize
     ensures { λ r. ⌜ r ≡ routeCount program ⌝ }
 {
-    filled::held(program.routes)
+    state_filled::held(program.routes)
 }
 
 // how many plans it has
 pub fn plan_count(program: Program) -> usize
     ensures { λ r. ⌜ r ≡ planCount program ⌝ }
 {
-    filled::held(program.plans)
+    state_filled::held(program.plans)
 }
 
 // plan i
@@ -249,7 +249,7 @@ pub fn plan(program: Program, i: usize) -> PlanRead
     ensures { λ r. ⌜ r ≡ planAt program i ⌝ }
     ensures reply { λ r. ⌜ planReply r ≡ planSays program i ⌝ }
 {
-    if filled::held(program.plans) <= i {
+    if state_filled::held(program.plans) <= i {
         return PlanRead::Nothing;
     }
     let p = program.plan[i];
@@ -261,7 +261,7 @@ pub fn route(program: Program, i: usize) -> RouteRead
     ensures { λ r. ⌜ r ≡ routeAt program i ⌝ }
     ensures reply { λ r. ⌜ routeReply r ≡ routeSays program i ⌝ }
 {
-    if filled::held(program.routes) <= i {
+    if state_filled::held(program.routes) <= i {
         return RouteRead::Nothing;
     }
     let x = program.route[i];
@@ -272,7 +272,7 @@ pub fn route(program: Program, i: usize) -> RouteRead
 pub fn skip_count(program: Program) -> usize
     ensures { λ r. ⌜ r ≡ skipCount program ⌝ }
 {
-    filled::held(program.skips)
+    state_filled::held(program.skips)
 }
 
 // the i-th slot left out, and its reason
@@ -280,7 +280,7 @@ pub fn skipped(program: Program, i: usize) -> SkippedRead
     ensures { λ r. ⌜ r ≡ skippedAt program i ⌝ }
     ensures reply { λ r. ⌜ skippedReply r ≡ skippedSays program i ⌝ }
 {
-    if filled::held(program.skips) <= i {
+    if state_filled::held(program.skips) <= i {
         return SkippedRead::Nothing;
     }
     let s = program.skipped[i];
@@ -301,7 +301,7 @@ pub fn rate(program: Program, dest: usize) -> RateRead
     ensures { λ r. ⌜ r ≡ rateOf program dest ⌝ }
     ensures reply { λ r. ⌜ rateReply r ≡ rateSays program dest ⌝ }
 {
-    let n = filled::held(program.plans);
+    let n = state_filled::held(program.plans);
     let mut i = 0;
     while i < n {
         let p = program.plan[i];

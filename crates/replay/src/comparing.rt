@@ -47,7 +47,7 @@ fn begins(out: &[u8], from: usize, at: usize, text: &[u8]) -> bool {
     if out[e] != 10 {
         return false;
     }
-    session::is(session::part(out, from, e), text)
+    trace_input_session::is(trace_input_session::part(out, from, e), text)
 }
 
 fn print(number: u64, what: &[u8], text: &[u8]) {
@@ -60,7 +60,7 @@ fn print(number: u64, what: &[u8], text: &[u8]) {
 
 // the line of the output at a place
 fn printed(out: &[u8], from: usize, at: usize) -> &[u8] {
-    session::part(out, from, lines::line_end(out, from, at))
+    trace_input_session::part(out, from, trace_input_lines::line_end(out, from, at))
 }
 
 // the answer differs, which is printed where it is among the first that do
@@ -83,7 +83,7 @@ fn stored(t: Tally, number: u64, text: &[u8], out: &[u8], at: usize) -> Tally {
     let from = t.from;
     if begins(out, from, at, text) {
         let mut next = t;
-        next.from = lines::after(feed_at(from, at, text));
+        next.from = trace_input_lines::after(feed_at(from, at, text));
         return next;
     }
     different(t, number, text, printed(out, from, at))
@@ -129,9 +129,9 @@ fn is_session(b: u8) -> bool {
 // the session line that a line is; an empty one where it is none
 pub fn line_of(text: &[u8]) -> &[u8] {
     if is_session(mark(text)) {
-        return session::part(text, 0, text.len());
+        return trace_input_session::part(text, 0, text.len());
     }
-    session::part(text, 0, 0)
+    trace_input_session::part(text, 0, 0)
 }
 
 // where the output of a session line begins; where it is none nothing changes
@@ -146,7 +146,13 @@ pub fn room(line: &[u8], at: usize) -> usize {
 pub fn read(t: Tally, number: u64, text: &[u8], out: &[u8], at: usize) -> Tally {
     let b = mark(text);
     if b == 124 {
-        return stored(t, number, session::part(text, 1, text.len()), out, at);
+        return stored(
+            t,
+            number,
+            trace_input_session::part(text, 1, text.len()),
+            out,
+            at,
+        );
     }
     if is_session(b) {
         return over(t, number, out, at);
@@ -165,7 +171,7 @@ fn head(out: &[u8], at: usize) -> usize {
     if out[0] != 64 {
         return 0;
     }
-    lines::after(lines::line_end(out, 0, at))
+    trace_input_lines::after(trace_input_lines::line_end(out, 0, at))
 }
 
 // with the answer to a session line, of `at` bytes

@@ -5,9 +5,9 @@ ghost use Prim.Native.Nat.{_<_};
 mod comparing;
 
 use comparing::Tally;
-use lines::Coming;
-use lines::Reader;
-use turn::Session;
+use trace_input_lines::Coming;
+use trace_input_lines::Reader;
+use trace_session::Session;
 
 // ---- memories
 
@@ -70,11 +70,11 @@ fn step(
     audio: &mut [f32],
     pool: &mut [f32],
 ) -> Stepped {
-    let text = session::part(input, a.start, a.stop);
-    let waiting = turn::waiting(s);
+    let text = trace_input_session::part(input, a.start, a.stop);
+    let waiting = trace_session::waiting(s);
     let u = comparing::read(t, a.number, text, out, waiting);
     let line = comparing::line_of(text);
-    let session = turn::answered(
+    let session = trace_session::answered(
         s,
         comparing::room(line, waiting),
         a.number,
@@ -87,7 +87,7 @@ fn step(
         audio,
         pool,
     );
-    let tally = comparing::answered(u, line, out, turn::waiting(session));
+    let tally = comparing::answered(u, line, out, trace_session::waiting(session));
     Stepped {
         session,
         tally,
@@ -115,13 +115,13 @@ fn replay_lines(
     audio: &mut [f32],
     pool: &mut [f32],
 ) -> Replayed {
-    let mut s = turn::start();
+    let mut s = trace_session::start();
     let mut r = from;
     let mut t = before;
     let mut done = false;
     let mut left = 4611686018427387904u64;
     while 0 < left {
-        let a = lines::ahead(fd, input, r);
+        let a = trace_input_lines::ahead(fd, input, r);
         let p = step(s, t, a, input, out, book, desk, values, audio, pool);
         let session = p.session;
         s = session;
@@ -132,7 +132,7 @@ fn replay_lines(
         done = a.done;
         left = fewer(left, p.over, done);
     }
-    let tally = comparing::over(t, r.number, out, turn::waiting(s));
+    let tally = comparing::over(t, r.number, out, trace_session::waiting(s));
     Replayed {
         reader: r,
         tally,
@@ -182,7 +182,7 @@ fn replay_list(
     pool: &mut [f32],
 ) -> Tally {
     let mut t = comparing::none();
-    let mut r = lines::first();
+    let mut r = trace_input_lines::first();
     let mut left = 4611686018427387904u64;
     while 0 < left {
         let p = replay_session(fd, r, t, input, out, book, desk, values, audio, pool);
@@ -199,9 +199,9 @@ fn replay_list(
 fn replay_open(fd: i32) -> Tally {
     let mut input = [0u8; 65536];
     let mut out = [0u8; 131072];
-    let mut book = [0usize; play::BOOK];
-    let mut desk = [0.0f32; play::DESK];
-    let mut values = [0.0f32; play::VALUES];
+    let mut book = [0usize; trace_dispatch::BOOK];
+    let mut desk = [0.0f32; trace_dispatch::DESK];
+    let mut values = [0.0f32; trace_dispatch::VALUES];
     let mut audio = [0.0f32; 450000];
     let mut pool = [0.0f32; 600000];
     replay_list(

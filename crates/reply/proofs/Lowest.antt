@@ -5,8 +5,8 @@ use mathlib.Core.Bool.{Bool, true, false, _&&_}
 use mathlib.Core.List.{List, [], _∷_, List·Memᴰ, List·Memᴰ·cases-cons, List·Memᴰ·not-nil}
 use Prim.Native.Nat.{ℕ}
 use lib.Dec.{T}
-use Rattle.judge.specs.Judge.{Row, judged, numbered, ascends}
-use Rattle.judge.proofs.Laws.{judged-applies, judged-accepted, judged-lowest}
+use Rattle.refusal.specs.Judge.{Row, judged, numbered, ascends}
+use Rattle.refusal.proofs.Laws.{judged-applies, judged-accepted, judged-lowest}
 use Rattle.reply.specs.Reply.{inOrder, listed, within, ordered, Lowest}
 
 left : (a b : Bool) → T (a && b) → T a

@@ -5,7 +5,7 @@ use mathlib.Core.List.{List, []}
 use Prim.Native.Nat.{ℕ}
 use native.Mathlib.Decide.{ℕ-discrete}
 use borrow.Author.Tests.{eq-eqb, ne-eqb}
-use Rattle.judge.specs.Judge.{Row, judged}
+use Rattle.refusal.specs.Judge.{Row, judged}
 use Rattle.reply.specs.Reply.{Reply, accepts, refuses, byRows}
 
 module _ {A : Type 0} (rows : List Row) (vs : List A) where

@@ -7,7 +7,7 @@ use mathlib.Core.Bool.{Bool, true, false, cond, _&&_}
 use mathlib.Core.List.{List, [], _∷_, List·Memᴰ}
 use Prim.Native.Nat.{ℕ, _≤_}
 use lib.Dec.{T, eqb}
-use Rattle.judge.specs.Judge.{Row, _when_, judged, numbered, ascends, NoneApplies}
+use Rattle.refusal.specs.Judge.{Row, _when_, judged, numbered, ascends, NoneApplies}
 
 pub record Reply (A : Type 0) : Type 0 where
   pub number : ℕ

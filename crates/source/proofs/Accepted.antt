@@ -7,7 +7,7 @@ use native.Mathlib.Omega.{arith}
 use lib.Dec.{ltb}
 use lib.ListN.{length}
 use borrow.Author.Tests.{ltb-false, ne-eqb}
-use Rattle.judge.specs.Judge.{judged}
+use Rattle.refusal.specs.Judge.{judged}
 use Rattle.config.specs.Sizes.{mostSources}
 use Rattle.source.specs.declared.Counts.{Counts}
 use Rattle.source.specs.Registry.{noSources}

@@ -9,7 +9,7 @@ use lib.Dec.{leb, ltb}
 use lib.ListN.{length, replicate}
 use lib.Seq.{take-suc-set, take-append-seam}
 use borrow.Author.Tests.{ltb-false, leb-false, le-ltb, lt-leb}
-use Rattle.judge.specs.Judge.{judged}
+use Rattle.refusal.specs.Judge.{judged}
 use Rattle.config.specs.Sizes.{mostSources}
 use Rattle.state.specs.declared.Kind.{Kind}
 use Rattle.state.specs.declared.Scope.{Scope}
@@ -18,10 +18,10 @@ use Rattle.state.specs.declared.Source.{Source}
 use Rattle.state.specs.declared.Sources.{Sources}
 use Rattle.source.specs.declared.SourceFound.the-variants as F
 use Rattle.source.specs.Keys.{mostKeyBytes, keyOf, keyIs, keyArray}
-use Rattle.format.specs.Bytes.{sameBytes}
+use Rattle.source_key.specs.Bytes.{sameBytes}
 use Rattle.state.specs.Registry.{sourceCount}
 use Rattle.source.specs.Registry.{registered, findKey, isAt, findSource, addRows, newEntry, withEntry, addedOr, addSource}
-use Rattle.format.proofs.Bytes.{same-self}
+use Rattle.source_key.proofs.Bytes.{same-self}
 use Rattle.source.proofs.Registry.{registered-length, find-after, find-others}
 
 -- a key that may be added: no entry has it, there is room for an entry, and the entry has room for it

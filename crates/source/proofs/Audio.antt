@@ -14,7 +14,7 @@ use Rattle.list.specs.Part.{part}
 use Rattle.state.specs.declared.Sources.{Sources}
 use Rattle.source.specs.declared.Counts.{Counts}
 use Rattle.source.specs.Keys.{mostKeyBytes}
-use Rattle.format.specs.Bytes.{sameBytes}
+use Rattle.source_key.specs.Bytes.{sameBytes}
 use Rattle.source.specs.Standard.{audioInfo, withSource, withAudio, audioKeys, total, anyLong, anySame, standardKey, clashes}
 
 -- ---- tests one after the other

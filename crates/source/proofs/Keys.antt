@@ -9,8 +9,8 @@ use lib.Dec.{eqb}
 use lib.ListN.{length, getD, take, drop, set, replicate, length-take}
 use lib.Seq.{drop-cons, drop-length, length-take-le, take-length, take-suc, set-at, getD-take}
 use borrow.Author.Tests.{eqb-true, eq-eqb}
-use Rattle.format.specs.Bytes.{sameBytes}
-use Rattle.format.proofs.Bytes.{same-lengths, same-from}
+use Rattle.source_key.specs.Bytes.{sameBytes}
+use Rattle.source_key.proofs.Bytes.{same-lengths, same-from}
 use Rattle.state.specs.declared.Source.{Source}
 use Rattle.source.specs.Keys.{mostKeyBytes, keyLength, keyOf, keyIs, keyArray}
 

@@ -12,7 +12,7 @@ use lib.ListN.{length, getD, take, drop, drop-of-length-le}
 use lib.Seq.{drop-cons, length-take-le, getD-take}
 use borrow.Author.Tests.{ne-eqb}
 use Rattle.list.proofs.Elements.{getD-inside}
-use Rattle.judge.specs.Judge.{judged}
+use Rattle.refusal.specs.Judge.{judged}
 use Rattle.reply.specs.Reply.{accepts, refuses, byRows}
 use Rattle.config.specs.Sizes.{mostSources}
 use Rattle.state.specs.declared.Kind.the-variants as K

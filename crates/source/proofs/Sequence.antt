@@ -5,8 +5,8 @@ use mathlib.Core.List.{List, []}
 use Prim.Native.Nat.{ℕ}
 use native.Mathlib.Omega.{arith}
 use borrow.Author.Tests.{lt-ltb, le-ltb}
-use Rattle.format.specs.Bytes.{sameBytes}
-use Rattle.format.specs.Numbered.{isNumbered}
+use Rattle.source_key.specs.Bytes.{sameBytes}
+use Rattle.source_key.specs.Numbered.{isNumbered}
 use Rattle.source.specs.Named.{seqWord, seqIndexKey}
 use Rattle.source.specs.Standard.{sequenceKey}
 

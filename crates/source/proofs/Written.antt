@@ -9,14 +9,14 @@ use lib.ListN.{length, set, replicate, length-append}
 use lib.Seq.{set-at, set-out}
 use borrow.Author.Tests.{lt-ltb}
 use Rattle.config.specs.Sizes.{mostSources}
-use Rattle.format.specs.declared.Text.{Text}
-use Rattle.format.specs.Text.{blankText, putByte, putAll, decimal}
+use Rattle.source_key.specs.declared.Text.{Text}
+use Rattle.source_key.specs.Text.{blankText, putByte, putAll, decimal}
 use Rattle.state.specs.Registry.{sourceCount}
 use Rattle.state.specs.declared.Source.{Source}
 use Rattle.state.specs.declared.Sources.{Sources}
 use Rattle.source.specs.Keys.{mostKeyBytes, keyArray}
 use Rattle.source.specs.Named.{seqWord, seqIndexKey}
-use Rattle.format.specs.Numbered.{numberedKey}
+use Rattle.source_key.specs.Numbered.{numberedKey}
 use Rattle.source.specs.declared.SourceInfo.{SourceInfo}
 use Rattle.source.specs.Registry.{newEntry, withEntry}
 use Rattle.source.specs.Standard.{heldInfo, withSource, counted, withNumbered, withSequence}

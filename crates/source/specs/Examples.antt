@@ -4,7 +4,7 @@ use mathlib.Core.Bool.{true, false}
 use mathlib.Core.List.{List, [], _∷_}
 use Prim.Native.Nat.{ℕ}
 use lib.ListN.{replicate}
-use Rattle.judge.specs.Judge.{judged}
+use Rattle.refusal.specs.Judge.{judged}
 use Rattle.state.specs.declared.Kind.the-variants as K
 use Rattle.state.specs.declared.Scope.the-variants as S
 use Rattle.state.specs.declared.Range.the-variants as R
@@ -13,7 +13,7 @@ use Rattle.state.specs.declared.Sources.{Sources}
 use Rattle.source.specs.declared.SourceAdded.{SourceAdded}
 use Rattle.source.specs.declared.SourceFound.the-variants as F
 use Rattle.source.specs.Keys.{keyOf, keyIs, keyArray}
-use Rattle.format.specs.Bytes.{sameBytes}
+use Rattle.source_key.specs.Bytes.{sameBytes}
 use Rattle.state.specs.Registry.{noSource as blankEntry, sourceCount}
 use Rattle.source.specs.Registry.{sourcesEmpty, registered, getSource, findKey, findSource, newEntry, withEntry, addSource}
 use Rattle.source.specs.Info.{engineOwned, usualInfo, infoVoice, infoGlobal, infoBipolar}

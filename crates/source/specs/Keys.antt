@@ -3,7 +3,7 @@ use mathlib.Core.Bool.{Bool}
 use mathlib.Core.List.{List, _++_}
 use Prim.Native.Nat.{ℕ, _-_, min}
 use lib.ListN.{length, take, replicate}
-use Rattle.format.specs.Bytes.{sameBytes}
+use Rattle.source_key.specs.Bytes.{sameBytes}
 use Rattle.state.specs.declared.Source.{Source}
 
 abbrev pub mostKeyBytes : ℕ

@@ -5,7 +5,7 @@ use mathlib.Core.List.{List, [], _∷_}
 use Prim.Native.Nat.{ℕ, zero, suc, _+_, min}
 use lib.Dec.{eqb, ltb, leb}
 use lib.ListN.{length, take, getD, set, replicate}
-use Rattle.judge.specs.Judge.{Row, _when_, judged}
+use Rattle.refusal.specs.Judge.{Row, _when_, judged}
 use Rattle.reply.specs.Reply.{Reply, accepts, refuses, byRows}
 use Rattle.config.specs.Sizes.{mostSources}
 use Rattle.state.specs.Registry.{sourceCount, noSource as blankEntry}

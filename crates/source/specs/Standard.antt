@@ -4,7 +4,7 @@ use mathlib.Core.List.{List, [], _∷_}
 use Prim.Native.Nat.{ℕ, zero, suc, _+_, _*_}
 use lib.Dec.{eqb, ltb, leb}
 use lib.ListN.{length, take, drop}
-use Rattle.judge.specs.Judge.{Row, _when_, judged}
+use Rattle.refusal.specs.Judge.{Row, _when_, judged}
 use Rattle.config.specs.Sizes.{mostSources}
 use Rattle.state.specs.declared.Kind.{Kind}
 use Rattle.state.specs.declared.Kind.the-variants as K
@@ -13,11 +13,11 @@ use Rattle.source.specs.declared.SourceInfo.{SourceInfo}
 use Rattle.source.specs.declared.Counts.{Counts}
 use Rattle.source.specs.declared.StandardMade.{StandardMade}
 use Rattle.source.specs.Keys.{mostKeyBytes}
-use Rattle.format.specs.Bytes.{sameBytes}
+use Rattle.source_key.specs.Bytes.{sameBytes}
 use Rattle.source.specs.Info.{usualInfo, infoVoice, infoBipolar}
 use Rattle.source.specs.Registry.{noSources, registered, findKey, isAt, newEntry, withEntry}
 use Rattle.source.specs.Named.{envWord, lfoWord, afterY, macroWord, seqWord, velocityKey, keyKey, channelPressureKey, polyPressureKey, random1Key, random2Key, alternate1Key, alternate2Key, modWheelKey, pitchBendKey, mpeXKey, mpeYKey, mpeZKey, releaseVelocityKey, constantKey, voiceLoadKey, seqIndexKey, randomRouteKey}
-use Rattle.format.specs.Numbered.{numberedKey, isNumbered}
+use Rattle.source_key.specs.Numbered.{numberedKey, isNumbered}
 
 -- ---- the entries, each after those before it
 

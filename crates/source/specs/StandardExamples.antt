@@ -4,8 +4,8 @@ use mathlib.Core.Bool.{true, false}
 use mathlib.Core.List.{List, [], _∷_}
 use Prim.Native.Nat.{ℕ}
 use lib.ListN.{replicate}
-use Rattle.format.specs.Text.{decimal}
-use Rattle.judge.specs.Judge.{judged}
+use Rattle.source_key.specs.Text.{decimal}
+use Rattle.refusal.specs.Judge.{judged}
 use Rattle.state.specs.declared.Kind.the-variants as K
 use Rattle.state.specs.declared.Scope.the-variants as S
 use Rattle.state.specs.declared.Range.the-variants as R
@@ -15,10 +15,10 @@ use Rattle.source.specs.declared.Counts.{Counts}
 use Rattle.source.specs.declared.SourceFound.{SourceFound}
 use Rattle.source.specs.declared.SourceFound.the-variants as F
 use Rattle.source.specs.Keys.{keyOf, keyIs, keyArray}
-use Rattle.format.specs.Bytes.{sameBytes}
+use Rattle.source_key.specs.Bytes.{sameBytes}
 use Rattle.source.specs.Registry.{noSources, registered, findKey, newEntry, withEntry}
 use Rattle.source.specs.Named.{envWord, lfoWord, afterY, macroWord, seqWord, velocityKey, keyKey, seqIndexKey, randomRouteKey}
-use Rattle.format.specs.Numbered.{numberedKey, readOn, numberThen, isNumbered}
+use Rattle.source_key.specs.Numbered.{numberedKey, readOn, numberThen, isNumbered}
 use Rattle.source.specs.Standard.{withSource, counted, withNumbered, lfoPair, withLfos, withNoteSources, withControllers, withAudio, withSequence, allSources, audioKeys, total, anyLong, anySame, has, fixedSources, sequenceKey, standardKey, clashes, standardCount, standardSources}
 
 abbrev none : Counts

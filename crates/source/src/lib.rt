@@ -5,14 +5,14 @@ ghost use Prim.Native.Nat.{_+_, _≤_, _<_};
 ghost use lib.Dec.{eqb, ltb};
 ghost use lib.ListN.{length, drop};
 ghost use Rattle.list.specs.Part.{part};
-ghost use Rattle.judge.specs.Judge.{judged};
+ghost use Rattle.refusal.specs.Judge.{judged};
 ghost use Rattle.config.specs.Sizes.{mostSources};
 ghost use Rattle.source.specs.Keys.{mostKeyBytes, keyLength, keyIs, keyArray};
 ghost use Rattle.state.specs.Registry.{noSource as blankEntry, sourceCount};
 ghost use Rattle.source.specs.Registry.{noSources, sourcesEmpty, registered, getSource, findKey, isAt, findSource, addRows, withEntry, addSource};
 ghost use Rattle.source.specs.Registry.{foundReply, foundSays};
 ghost use Rattle.source.specs.Info.{engineOwned, usualScope, usualRange, usualInfo, infoVoice, infoGlobal, infoBipolar};
-ghost use Rattle.format.specs.Numbered.{numberedKey};
+ghost use Rattle.source_key.specs.Numbered.{numberedKey};
 ghost use Rattle.source.specs.Standard.{heldInfo, audioInfo, withSource, withNumbered, lfoPair, withLfos, withNoteSources, withControllers, withAudio, withSequence, allSources, audioKeys, total, anyLong, anySame, has, fixedSources, sequenceKey, standardKey, clashes, standardCount, standardRows, standardSources};
 use config::SOURCES;
 use state::KEY_BYTES;
@@ -419,10 +419,10 @@ fn with_number(sources: Sources, word: &[u8], after: &[u8], info: SourceInfo, n:
     requires { ⌜ (n < 1000) × (length (now word) + length (now after) ≤ 29) ⌝ }
     ensures { λ r. ⌜ r ≡ withSource (numberedKey (now (word .entry)) (now (after .entry)) n) info sources ⌝ }
 {
-    let blank = format::blank();
-    let begun = format::put_word(blank, word);
-    let numbered = format::put_number(begun, n);
-    let text = format::put_word(numbered, after);
+    let blank = source_key::blank();
+    let begun = source_key::put_word(blank, word);
+    let numbered = source_key::put_number(begun, n);
+    let text = source_key::put_word(numbered, after);
     let key = text.bytes;
     let kind = info.kind;
     let scope = info.scope;
@@ -577,13 +577,13 @@ fn with_audio(sources: Sources, bytes: &[u8], lengths: &[usize]) -> Sources
 fn is_sequence(key: &[u8], n: usize) -> bool
     ensures { λ r. ⌜ r ≡ sequenceKey n (now (key .entry)) ⌝ }
 {
-    if format::is_numbered(key, b"seq_value", b"", n) {
+    if source_key::is_numbered(key, b"seq_value", b"", n) {
         return true;
     }
     if n == 0 {
         return false;
     }
-    format::same_bytes(key, b"seq_index")
+    source_key::same_bytes(key, b"seq_index")
 }
 
 // The standard sources whose keys have no number.
@@ -608,16 +608,16 @@ fn is_standard(counts: Counts, fixed: Sources, key: &[u8]) -> bool
     requires { ⌜ fixed ≡ fixedSources ⌝ }
     ensures { λ r. ⌜ r ≡ standardKey counts (now (key .entry)) ⌝ }
 {
-    if format::is_numbered(key, b"env", b"", counts.envelopes) {
+    if source_key::is_numbered(key, b"env", b"", counts.envelopes) {
         return true;
     }
-    if format::is_numbered(key, b"lfo", b"", counts.lfos) {
+    if source_key::is_numbered(key, b"lfo", b"", counts.lfos) {
         return true;
     }
-    if format::is_numbered(key, b"lfo", b"_y", counts.lfos) {
+    if source_key::is_numbered(key, b"lfo", b"_y", counts.lfos) {
         return true;
     }
-    if format::is_numbered(key, b"macro", b"", counts.macros) {
+    if source_key::is_numbered(key, b"macro", b"", counts.macros) {
         return true;
     }
     if is_sequence(key, counts.sequence_values) {
@@ -639,7 +639,7 @@ fn any_same(key: &[u8], bytes: &[u8], from: usize, lengths: &[usize], first: usi
             return false;
         }
         let end = at + n;
-        if format::same_bytes(key, &bytes[at..end]) {
+        if source_key::same_bytes(key, &bytes[at..end]) {
             return true;
         }
         at = end;

@@ -5,7 +5,7 @@ use config::Config;
 use config::DESTINATIONS;
 use config::SLOTS;
 use config::SOURCES;
-use table::Curve;
+use curve_table::Curve;
 use voice::Marks;
 use voice::Notes;
 use voice::Voices;

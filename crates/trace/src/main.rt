@@ -26,19 +26,19 @@ fn run(
     audio: &mut [f32],
     pool: &mut [f32],
 ) {
-    let mut s = play::start();
-    let empty = play::no_program();
+    let mut s = trace_dispatch::start();
+    let empty = trace_dispatch::no_program();
     let mut shelf = [empty; 9];
-    let mut r = lines::first();
+    let mut r = trace_input_lines::first();
     let mut left = 4611686018427387904u64;
     while 0 < left {
-        let a = lines::ahead(STDIN_FILENO, input, r);
-        let line = session::part(input, a.start, a.stop);
-        let i = play::number_of(line, book);
-        let k = play::place(i);
+        let a = trace_input_lines::ahead(STDIN_FILENO, input, r);
+        let line = trace_input_session::part(input, a.start, a.stop);
+        let i = trace_dispatch::number_of(line, book);
+        let k = trace_dispatch::place(i);
         let p = shelf[k];
-        let h = play::begun(s, a.number, line, book, out);
-        let next = play::on_line(
+        let h = trace_dispatch::begun(s, a.number, line, book, out);
+        let next = trace_dispatch::on_line(
             s,
             p,
             i,
@@ -54,25 +54,25 @@ fn run(
         );
         let t = next.state;
         s = t;
-        let j = play::place(next.i);
+        let j = trace_dispatch::place(next.i);
         let q = next.program;
         shelf[j] = q;
         let reader = a.reader;
         r = reader;
         left = fewer(left, s.code, a.done);
     }
-    play::end(s, r.failed, r.number, out);
+    trace_dispatch::end(s, r.failed, r.number, out);
 }
 
 // The same on arrays.
 fn run_on(
     input: &mut [u8; 65536],
     out: &mut [u8; 65536],
-    book: &mut [usize; play::BOOK],
-    desk: &mut [f32; play::DESK],
-    values: &mut [f32; play::VALUES],
-    audio: &mut [f32; play::AUDIO],
-    pool: &mut [f32; play::POOL],
+    book: &mut [usize; trace_dispatch::BOOK],
+    desk: &mut [f32; trace_dispatch::DESK],
+    values: &mut [f32; trace_dispatch::VALUES],
+    audio: &mut [f32; trace_dispatch::AUDIO],
+    pool: &mut [f32; trace_dispatch::POOL],
 ) {
     run(input, out, book, desk, values, audio, pool);
 }
@@ -80,11 +80,11 @@ fn run_on(
 fn main() {
     let mut input = [0u8; 65536];
     let mut out = [0u8; 65536];
-    let mut book = [0usize; play::BOOK];
-    let mut desk = [0.0f32; play::DESK];
-    let mut values = [0.0f32; play::VALUES];
-    let mut audio = [0.0f32; play::AUDIO];
-    let mut pool = [0.0f32; play::POOL];
+    let mut book = [0usize; trace_dispatch::BOOK];
+    let mut desk = [0.0f32; trace_dispatch::DESK];
+    let mut values = [0.0f32; trace_dispatch::VALUES];
+    let mut audio = [0.0f32; trace_dispatch::AUDIO];
+    let mut pool = [0.0f32; trace_dispatch::POOL];
     run_on(
         &mut input,
         &mut out,

@@ -1,5 +1,5 @@
 -- `block::chunk_steps` meets its contract.
-use Rattle.input.proofs.Tests.{was-true}
+use Rattle.lane_input.proofs.Tests.{was-true}
 use mathlib.Core.Path.{refl}
 use borrow.Author.Needs.{needs}
 use Rattle.block.proofs.chunk_steps.Statement.{statement}

@@ -10,7 +10,7 @@ use Rattle.state.specs.declared.Signals.{Signals}
 use Rattle.model.specs.Chunks.{chunkTotal}
 use Rattle.model.specs.World.{worldOf}
 use Rattle.model.specs.Process.{chunkSteps}
-use Rattle.sound.specs.Passes.{PreparedBy}
+use Rattle.audio_rows.specs.Passes.{PreparedBy}
 use Rattle.block.specs.Moves.{movedBy, wholeOf}
 use Rattle.block.specs.Scenes.{workOf}
 use Rattle.block.proofs.Blocks.{steps-more, steps-all}

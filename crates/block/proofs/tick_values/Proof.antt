@@ -1,6 +1,6 @@
 -- `block::tick_values` meets its contract.
 use native.Mathlib.Omega.{arith}
-use Rattle.input.specs.Scene.{envOf}
+use Rattle.lane_input.specs.Scene.{envOf}
 use Rattle.block.specs.Scenes.{sceneOf}
 use Rattle.block.proofs.Steps.{scene-fits, is-tick, given}
 use borrow.Author.Needs.{needs}

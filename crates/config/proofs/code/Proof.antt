@@ -4,7 +4,7 @@ use mathlib.Core.Bool.{Bool, true, false, not}
 use lib.Ieee.{ofBits, le}
 use borrow.Author.Needs.{needs}
 use borrow.Author.Tests.{lt-ltb, le-ltb, not-true, not-false}
-use Rattle.judge.specs.Judge.{judged}
+use Rattle.refusal.specs.Judge.{judged}
 use Rattle.number.specs.Number.{finite}
 use Rattle.config.specs.Configuration.{configCode}
 use Rattle.config.proofs.code.Statement.{statement}

@@ -9,7 +9,7 @@ use lib.Dec.{le→leb}
 use lib.ListN.{length, getD, set, length-set}
 use lib.Seq.{getD-set-same, getD-set-other, ext-getD}
 use lib.Ieee.{Float, nan, inFloat, ofBits}
-use Rattle.table.specs.Table.{diagonalAt}
+use Rattle.curve_table.specs.Table.{diagonalAt}
 use Rattle.curve.specs.CurveCalls.{diagonalTable}
 use Rattle.curve.proofs.Laws.{length-diagonal, diagonal-at}
 use Rattle.curve.proofs.diagonal.Statement.{statement}

@@ -3,7 +3,7 @@ use mathlib.Core.Path.{sym, _∙_}
 use native.Mathlib.Omega.{arith}
 use borrow.Author.Needs.{needs}
 use lib.Ieee.{ofBits}
-use Rattle.table.proofs.Laws.{accepted-length}
+use Rattle.curve_table.proofs.Laws.{accepted-length}
 use Rattle.curve.proofs.Laws.{lookup-accepted, lookup-refused}
 use Rattle.curve.proofs.lookup.Statement.{statement}
 use Rattle.curve.proofs.lookup.Tie as tie

@@ -1,7 +1,7 @@
 -- `engine::play` meets its contract.
 use mathlib.Core.Path.{ap}
 use borrow.Author.Needs.{needs}
-use Rattle.noting.specs.Parts.{stateWith}
+use Rattle.engine_notes.specs.Parts.{stateWith}
 use Rattle.engine.proofs.play.Statement.{statement}
 use Rattle.engine.proofs.play.Tie as tie
 

@@ -4,7 +4,7 @@ use native.Mathlib.Omega.{arith}
 use borrow.Author.Needs.{needs}
 use borrow.Author.Tests.{eq-eqb, ne-eqb}
 use lib.ListN.{length, length-map}
-use Rattle.slot.specs.Matrix.{withSlots, withSlot}
+use Rattle.slots.specs.Matrix.{withSlots, withSlot}
 use Rattle.matrix.specs.Edits.{answered}
 use Rattle.matrix.proofs.Laws.{with-slot-past}
 use Rattle.matrix.proofs.answer.Statement.{statement}

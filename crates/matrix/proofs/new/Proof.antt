@@ -1,6 +1,6 @@
 -- `matrix::new` meets its contract.
 use borrow.Author.Needs.{needs}
-use Rattle.slot.specs.Matrix.{newMatrix}
+use Rattle.slots.specs.Matrix.{newMatrix}
 use Rattle.matrix.proofs.new.Statement.{statement}
 use Rattle.matrix.proofs.new.Tie as tie
 

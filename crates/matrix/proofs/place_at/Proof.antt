@@ -1,7 +1,7 @@
 -- `matrix::place_at` meets its contract.
 use borrow.Author.Needs.{needs}
 use borrow.Author.Tests.{eq-eqb, ne-eqb, lt-ltb, le-ltb}
-use Rattle.slot.specs.Matrix.{withSlots, withSlot}
+use Rattle.slots.specs.Matrix.{withSlots, withSlot}
 use Rattle.matrix.specs.Edits.{placed}
 use Rattle.matrix.proofs.place_at.Statement.{statement}
 use Rattle.matrix.proofs.place_at.Tie as tie

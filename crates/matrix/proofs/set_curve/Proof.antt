@@ -5,15 +5,15 @@ use mathlib.Core.List.{_∷_}
 use Prim.Native.Nat.{ℕ}
 use borrow.Author.Needs.{needs}
 use lib.Dec.{leb}
-use Rattle.judge.specs.Judge.{judged}
-use Rattle.judge.proofs.Laws.{judged-row}
+use Rattle.refusal.specs.Judge.{judged}
+use Rattle.refusal.proofs.Laws.{judged-row}
 use Rattle.config.specs.Sizes.{slots}
-use Rattle.table.specs.declared.Curve.the-variants as C
+use Rattle.curve_table.specs.declared.Curve.the-variants as C
 use Rattle.state.specs.declared.Slot.{Slot}
-use Rattle.slot.specs.Matrix.{withSlot}
+use Rattle.slots.specs.Matrix.{withSlot}
 use Rattle.matrix.specs.Which.{withCurve}
-use Rattle.tables.specs.Tables.{withTable}
-use Rattle.tables.specs.Rows.{tableRows, curveAllowed}
+use Rattle.slots_tables.specs.Tables.{withTable}
+use Rattle.slots_tables.specs.Rows.{tableRows, curveAllowed}
 use Rattle.matrix.specs.Edits.{slotRow, answered, setCurve}
 use Rattle.matrix.proofs.Laws.{curve-rows-accepted, tabled-refused, tabled-accepted}
 use Rattle.matrix.proofs.set_curve.Statement.{statement}

@@ -1,6 +1,6 @@
 -- `matrix::set_glide` meets its contract.
 use borrow.Author.Needs.{needs}
-use Rattle.slot.specs.Matrix.{withGlide}
+use Rattle.slots.specs.Matrix.{withGlide}
 use Rattle.matrix.specs.Edits.{setGlide}
 use Rattle.matrix.proofs.set_glide.Statement.{statement}
 use Rattle.matrix.proofs.set_glide.Tie as tie

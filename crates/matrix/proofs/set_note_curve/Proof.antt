@@ -4,10 +4,10 @@ use mathlib.Core.Bool.{Bool}
 use Rattle.state.specs.declared.Matrix.{Matrix}
 use Prim.Native.Nat.{ℕ}
 use borrow.Author.Needs.{needs}
-use Rattle.judge.specs.Judge.{judged}
-use Rattle.table.specs.Table.{allAllowed}
-use Rattle.tables.specs.Tables.{withTable}
-use Rattle.tables.specs.Rows.{tableRows}
+use Rattle.refusal.specs.Judge.{judged}
+use Rattle.curve_table.specs.Table.{allAllowed}
+use Rattle.slots_tables.specs.Tables.{withTable}
+use Rattle.slots_tables.specs.Rows.{tableRows}
 use Rattle.matrix.specs.Edits.{answered, tabled, setNoteCurve}
 use Rattle.matrix.proofs.Laws.{table-rows-accepted, tabled-refused, tabled-accepted}
 use Rattle.matrix.proofs.set_note_curve.Statement.{statement}

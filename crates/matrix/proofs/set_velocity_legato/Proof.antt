@@ -1,6 +1,6 @@
 -- `matrix::set_velocity_legato` meets its contract.
 use borrow.Author.Needs.{needs}
-use Rattle.slot.specs.Matrix.{withVelocityLegato}
+use Rattle.slots.specs.Matrix.{withVelocityLegato}
 use Rattle.matrix.specs.Edits.{setVelocityLegato}
 use Rattle.matrix.proofs.set_velocity_legato.Statement.{statement}
 use Rattle.matrix.proofs.set_velocity_legato.Tie as tie

@@ -2,9 +2,9 @@
 use mathlib.Core.List.{[], _∷_}
 use borrow.Author.Needs.{needs}
 use lib.Dec.{leb}
-use Rattle.judge.proofs.Laws.{judged-row}
+use Rattle.refusal.proofs.Laws.{judged-row}
 use Rattle.config.specs.Sizes.{slots}
-use Rattle.tables.specs.Rows.{finiteRow}
+use Rattle.slots_tables.specs.Rows.{finiteRow}
 use Rattle.matrix.proofs.slot_and_number_code.Statement.{statement}
 use Rattle.matrix.proofs.slot_and_number_code.Tie as tie
 

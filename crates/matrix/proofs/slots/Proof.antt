@@ -1,6 +1,6 @@
 -- `matrix::slots` meets its contract.
 use borrow.Author.Needs.{needs}
-use Rattle.slot.specs.Matrix.{slotsOf}
+use Rattle.slots.specs.Matrix.{slotsOf}
 use Rattle.matrix.proofs.slots.Statement.{statement}
 use Rattle.matrix.proofs.slots.Tie as tie
 

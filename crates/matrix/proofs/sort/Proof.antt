@@ -4,9 +4,9 @@ use mathlib.Core.Bool.{Bool}
 use mathlib.Core.List.{map}
 use borrow.Author.Needs.{needs}
 use borrow.Author.Tests.{not-true, not-false}
-use Rattle.slot.specs.Matrix.{withSlots}
-use Rattle.sorting.specs.Keys.{keyOf}
-use Rattle.sorting.specs.Order.{sortedPlaces}
+use Rattle.slots.specs.Matrix.{withSlots}
+use Rattle.matrix_sorting.specs.Keys.{keyOf}
+use Rattle.matrix_sorting.specs.Order.{sortedPlaces}
 use Rattle.matrix.specs.Edits.{sortedFrom}
 use Rattle.matrix.proofs.Laws.{sort-barred, sort-plain, sort-short, sort-named}
 use Rattle.matrix.proofs.sort.Statement.{statement}

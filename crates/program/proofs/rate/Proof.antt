@@ -6,7 +6,7 @@ use borrow.Author.Needs.{needs}
 use lib.ListN.{length, take}
 use Rattle.config.specs.Sizes.{slots}
 use Rattle.list.proofs.Elements.{length-mapped}
-use Rattle.filled.proofs.Stored.{stored-from, stored-end}
+use Rattle.state_filled.proofs.Stored.{stored-from, stored-end}
 use Rattle.program.specs.Readers.{planCount, rateOf}
 use Rattle.program.proofs.Rates.{Others, rate-here, others-next, no-rate}
 use Rattle.program.proofs.Replies.{rate-said}

@@ -5,7 +5,7 @@ use native.Mathlib.Omega.{arith}
 use lib.ListN.{length}
 use borrow.Author.Needs.{needs}
 use borrow.Author.Tests.{lt-ltb, le-ltb, le-leb, lt-leb}
-use Rattle.judge.specs.Judge.{judged}
+use Rattle.refusal.specs.Judge.{judged}
 use Rattle.config.specs.Sizes.{mostSources}
 use Rattle.source.specs.Keys.{mostKeyBytes}
 use Rattle.state.specs.Registry.{sourceCount}

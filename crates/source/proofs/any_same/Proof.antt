@@ -5,7 +5,7 @@ use native.Mathlib.Omega.{arith}
 use mathlib.Core.Bool.{true, false}
 use lib.ListN.{length, getD, drop}
 use Rattle.list.specs.Part.{part}
-use Rattle.format.specs.Bytes.{sameBytes}
+use Rattle.source_key.specs.Bytes.{sameBytes}
 use Rattle.source.specs.Standard.{audioKeys, anySame}
 use Rattle.source.proofs.Audio.{same-hit, same-miss, same-none, same-end}
 use borrow.Author.Needs.{needs}

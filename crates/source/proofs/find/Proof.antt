@@ -1,7 +1,7 @@
 -- `source::find` meets its contract. Assumes nothing.
 use mathlib.Core.Path.{_∙_}
 use borrow.Author.Tests.{lt-ltb, le-ltb}
-use Rattle.judge.specs.Judge.{judged}
+use Rattle.refusal.specs.Judge.{judged}
 use Rattle.source.specs.Registry.{findSource}
 use Rattle.source.proofs.Registry.{find-said}
 use borrow.Author.Needs.{needs}

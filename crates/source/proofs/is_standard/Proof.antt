@@ -3,7 +3,7 @@ use mathlib.Core.Path.{_≡_, sym, ap, _∙_}
 use mathlib.Core.Bool.{true, false}
 use mathlib.Core.List.{[]}
 use Rattle.source.specs.Named.{envWord, lfoWord, afterY, macroWord}
-use Rattle.format.specs.Numbered.{isNumbered}
+use Rattle.source_key.specs.Numbered.{isNumbered}
 use Rattle.source.specs.Standard.{has, sequenceKey, standardKey}
 use borrow.Author.Needs.{needs}
 use Rattle.source.proofs.is_standard.Statement.{statement}

@@ -8,9 +8,9 @@ use borrow.Author.Tests.{eq-eqb, ne-eqb}
 use lib.ListN.{length, getD, take, drop}
 use lib.Seq.{length-take-le}
 use Rattle.source.specs.Keys.{keyLength}
-use Rattle.format.specs.Bytes.{sameBytes}
+use Rattle.source_key.specs.Bytes.{sameBytes}
 use Rattle.source.proofs.Keys.{same-turn, key-longer, key-by-bytes}
-use Rattle.format.proofs.Bytes.{same-past}
+use Rattle.source_key.proofs.Bytes.{same-past}
 use Rattle.source.proofs.key_is.Statement.{statement}
 use Rattle.source.proofs.key_is.Tie as tie
 

@@ -3,7 +3,7 @@ use mathlib.Core.Path.{_≡_, sym, _∙_}
 use mathlib.Core.Bool.{true, false}
 use lib.Dec.{ltb}
 use lib.ListN.{length}
-use Rattle.judge.specs.Judge.{judged}
+use Rattle.refusal.specs.Judge.{judged}
 use Rattle.config.specs.Sizes.{mostSources}
 use Rattle.source.specs.Standard.{audioKeys, total, anyLong, clashes, standardCount}
 use borrow.Author.Needs.{needs}

@@ -7,7 +7,7 @@ use mathlib.Core.List.{List}
 use lib.ListN.{length}
 use Rattle.state.specs.declared.Sources.{Sources}
 use Rattle.source.specs.declared.SourceInfo.{SourceInfo}
-use Rattle.format.specs.Numbered.{numberedKey}
+use Rattle.source_key.specs.Numbered.{numberedKey}
 use Rattle.source.specs.Standard.{withSource, counted, withNumbered}
 use Rattle.source.proofs.Written.{counted-none, counted-more}
 use borrow.Author.Needs.{needs}

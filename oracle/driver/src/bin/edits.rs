@@ -1,5 +1,5 @@
 //! Makes the editor's calls on the published matrix, for edits.py: a call a line, what it answers and what the matrix
-//! is afterwards. crates/edits/data/HOW.txt says what the words of a line are; a question has those up to the answer
+//! is afterwards. crates/replay_edits/data/HOW.txt says what the words of a line are; a question has those up to the answer
 //! (and the slot's, for a slot that is set), the answer line all of them.
 //!
 //! Where document 01 refuses a call (a number that is not finite) it is not made, and its number is the answer. With

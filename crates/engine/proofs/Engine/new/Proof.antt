@@ -1,6 +1,6 @@
 -- `Engine::new` meets its contract.
 use denote.Ref.{now}
-use Rattle.setting.proofs.Accepted.{new-room}
+use Rattle.engine_settings.proofs.Accepted.{new-room}
 use Rattle.engine.proofs.SettingNew.{sources-fit, dests-fit, new-refused, new-made}
 use borrow.Author.Needs.{needs}
 use Rattle.engine.proofs.Engine.new.Statement.{statement}

@@ -1,7 +1,7 @@
 -- `Engine::set_base` meets its contract.
 use denote.Ref.{now}
 use native.Mathlib.Omega.{arith}
-use Rattle.setting.proofs.Accepted.{base-room}
+use Rattle.engine_settings.proofs.Accepted.{base-room}
 use Rattle.engine.proofs.SettingDone.{base-refused, base-set}
 use borrow.Author.Needs.{needs}
 use Rattle.engine.proofs.Engine.set_base.Statement.{statement}

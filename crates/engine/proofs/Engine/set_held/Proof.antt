@@ -1,6 +1,6 @@
 -- `Engine::set_held` meets its contract.
 use denote.Ref.{now}
-use Rattle.setting.proofs.Accepted.{held-room}
+use Rattle.engine_settings.proofs.Accepted.{held-room}
 use Rattle.engine.proofs.SettingDone.{held-refused, held-set}
 use borrow.Author.Needs.{needs}
 use Rattle.engine.proofs.Engine.set_held.Statement.{statement}

@@ -1,7 +1,7 @@
 -- `Engine::set_voice_held` meets its contract.
 use denote.Ref.{now}
 use native.Mathlib.Omega.{arith}
-use Rattle.setting.proofs.Accepted.{voice-held-room}
+use Rattle.engine_settings.proofs.Accepted.{voice-held-room}
 use Rattle.engine.proofs.SettingDone.{voice-refused, voice-set}
 use borrow.Author.Needs.{needs}
 use Rattle.engine.proofs.Engine.set_voice_held.Statement.{statement}

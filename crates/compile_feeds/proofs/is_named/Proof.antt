@@ -1,0 +1,71 @@
+-- `compile_feeds::is_named` meets its contract. The loop's invariant: the first i candidates do not name d. The measure is what is left of them.
+use mathlib.Core.Path.{_≡_, sym}
+use Prim.Native.Nat.{_≤_, _-_}
+use native.Mathlib.Omega.{arith}
+use borrow.Author.Needs.{needs}
+use lib.ListN.{length}
+use Rattle.list.proofs.Elements.{length-mapped}
+use Rattle.compile_feeds.proofs.Named.{Unnamed, unnamed-none, named-here, unnamed-next, unnamed-all}
+use Rattle.compile_feeds.proofs.is_named.Statement.{statement}
+use Rattle.compile_feeds.proofs.is_named.Tie as tie
+
+abbrev Inv-loop : tie.InvT-loop
+Inv-loop d candidates n i₀ i = (i ≤ n) × Unnamed candidates d i
+
+abbrev μ-loop : tie.MeasureT-loop
+μ-loop d candidates n i₀ i = n - i
+
+held-requires : tie.Need-held-requires Inv-loop μ-loop
+held-requires c κs = search needs
+
+loop-holds : tie.Need-loop-holds Inv-loop μ-loop
+loop-holds c = (search needs, unnamed-none (c .before .args .t1) _)
+
+mul-c : tie.Need-mul-c Inv-loop μ-loop
+mul-c c = search needs
+
+element-copy-out-c : tie.Need-element-copy-out-c Inv-loop μ-loop
+element-copy-out-c c = search needs
+
+returns : tie.Need-returns Inv-loop μ-loop
+returns c =
+    let l = c .before .before .before .before .loop in
+    let a = c .before .before .before .before .before .before .args in
+    let e : length (a .t1 .at) ≡ 64 = search (needs, length-mapped) in
+    sym (named-here (a .t1) (a .d) e (l .i) (l .inv .1) (omega arith) (c .if1 .taken))
+
+add-i : tie.Need-add-i Inv-loop μ-loop
+add-i c = search needs
+
+loop-less : tie.Need-loop-less Inv-loop μ-loop
+loop-less c = search needs
+
+loop-again : tie.Need-loop-again Inv-loop μ-loop
+loop-again c =
+    let l = c .before .before .before .before .loop in
+    let a = c .before .before .before .before .before .before .args in
+    let e : length (a .t1 .at) ≡ 64 = search (needs, length-mapped) in
+    (search needs, unnamed-next (a .t1) (a .d) e (l .i) (l .inv .1) (omega arith) (c .if1 .left))
+
+returns-2 : tie.Need-returns-2 Inv-loop μ-loop
+returns-2 c =
+    let l = c .before .loop in
+    let a = c .before .before .before .args in
+    let e : length (a .t1 .at) ≡ 64 = search (needs, length-mapped) in
+    sym (unnamed-all (a .t1) (a .d) e (l .i) (l .inv .1) (omega arith))
+
+pub is-named-spec : {M : Type 1} → statement M
+is-named-spec =
+    tie.close
+    (tie.spec
+    Inv-loop
+    μ-loop
+    held-requires
+    loop-holds
+    mul-c
+    element-copy-out-c
+    returns
+    add-i
+    loop-less
+    loop-again
+    returns-2)

@@ -1,0 +1,31 @@
+-- `engine_reads::to_start` meets its contract.
+use Prim.Native.Nat.{_+_}
+use native.Mathlib.Omega.{arith}
+use Rattle.layout.proofs.Bounds.{product-bound}
+use borrow.Author.Needs.{needs}
+use Rattle.engine_reads.proofs.to_start.Statement.{statement}
+use Rattle.engine_reads.proofs.to_start.Tie as tie
+
+plan-size-requires : tie.Need-plan-size-requires
+plan-size-requires c κs = search needs
+
+mul-result : tie.Need-mul-result
+mul-result c = omega (arith, product-bound (c .before .args .i) (c .plan-size .result) 64 17024 (omega arith) (omega arith))
+
+add-result : tie.Need-add-result
+add-result c = search needs
+
+mul-result-2 : tie.Need-mul-result-2
+mul-result-2 c = search needs
+
+add-result-2 : tie.Need-add-result-2
+add-result-2 c =
+    let a = c .before .args in
+    omega (arith, product-bound (a .i) (c .plan-size .result) 64 17024 (omega arith) (omega arith), product-bound (2 + a .chunks) (a .stride) 132 64 (omega arith) (omega arith))
+
+returns : tie.Need-returns
+returns c = rw (c .plan-size .ensures .0)
+
+pub to-start-spec : {M : Type 1} → statement M
+to-start-spec =
+    tie.close (tie.spec plan-size-requires mul-result add-result mul-result-2 add-result-2 returns)

@@ -1,0 +1,50 @@
+-- `trace_store_book::found` is safe and ends. Assumes nothing.
+use borrow.Author.Needs.{needs}
+use Prim.Native.Nat.{_≤_, _-_}
+use Rattle.trace_store_book.proofs.found.Statement.{statement}
+use Rattle.trace_store_book.proofs.found.Tie as tie
+
+abbrev Inv-loop : tie.InvT-loop
+Inv-loop book numbers first end at n i₀ i = (first ≤ i)
+
+abbrev μ-loop : tie.MeasureT-loop
+μ-loop book numbers first end at n i₀ i = end - i
+
+loop-holds : tie.Need-loop-holds Inv-loop μ-loop
+loop-holds c = search needs
+
+is-equal-requires : tie.Need-is-equal-requires Inv-loop μ-loop
+is-equal-requires c κs = search needs
+
+place-requires : tie.Need-place-requires Inv-loop μ-loop
+place-requires c κs = search needs
+
+returns : tie.Need-returns Inv-loop μ-loop
+returns c = search needs
+
+add-i : tie.Need-add-i Inv-loop μ-loop
+add-i c = search needs
+
+loop-less : tie.Need-loop-less Inv-loop μ-loop
+loop-less c = search needs
+
+loop-again : tie.Need-loop-again Inv-loop μ-loop
+loop-again c = search needs
+
+returns-2 : tie.Need-returns-2 Inv-loop μ-loop
+returns-2 c = search needs
+
+pub found-spec : {M : Type 1} → statement M
+found-spec =
+    tie.close
+    (tie.spec
+    Inv-loop
+    μ-loop
+    loop-holds
+    is-equal-requires
+    place-requires
+    returns
+    add-i
+    loop-less
+    loop-again
+    returns-2)
