@@ -1,5 +1,7 @@
 // Row 6 at its edges for the calls that no session reaches: a matrix that is loaded or sorted, a program that is installed, a curve's seconds.
 // Prints a line for each call, with the number that it hands back.
+ghost use Prim.Native.Nat.{_≤_};
+ghost use lib.ListN.{length};
 use config::Config;
 use curve_table::Curve;
 use curve_table::POINTS;
@@ -85,17 +87,19 @@ fn both(what: &[u8], m: Matrix, tables: &mut [f32], others: &[f32]) {
     say(b" sort ", sorted(m, tables));
 }
 
-fn slots(tables: &mut [f32], others: &[f32]) {
-    both(
-        b"largest",
-        last_slot(LARGEST, LARGEST, LARGEST, LARGEST),
-        tables,
-        others,
-    );
-    both(b"amount", last_slot(INFINITE, 0, 0, 0), tables, others);
-    both(b"output", last_slot(0, NOT_A_NUMBER, 0, 0), tables, others);
-    both(b"rise", last_slot(0, 0, INFINITE, 0), tables, others);
-    both(b"fall", last_slot(0, 0, 0, NOT_A_NUMBER), tables, others);
+// the same, with tables of its own
+fn alone(what: &[u8], m: Matrix) {
+    let mut tables = [0.0f32; TABLES];
+    let others = [0.0f32; TABLES];
+    both(what, m, &mut tables, &others);
+}
+
+fn slots() {
+    alone(b"largest", last_slot(LARGEST, LARGEST, LARGEST, LARGEST));
+    alone(b"amount", last_slot(INFINITE, 0, 0, 0));
+    alone(b"output", last_slot(0, NOT_A_NUMBER, 0, 0));
+    alone(b"rise", last_slot(0, 0, INFINITE, 0));
+    alone(b"fall", last_slot(0, 0, 0, NOT_A_NUMBER));
 }
 
 // a matrix whose velocity curve is the table at its place
@@ -110,19 +114,37 @@ fn velocity() -> Matrix {
     e.matrix
 }
 
-// with a number at a place of both memories
+fn store(numbers: &mut [f32], at: usize, bits: u32) {
+    if numbers.len() <= at {
+        return;
+    }
+    numbers[at] = hex::of_bits(bits);
+}
+
+// how many of the first n numbers there are
+fn most(numbers: &[f32], n: usize) -> usize
+    ensures { λ r. ⌜ r ≤ length (now (numbers .entry)) ⌝ }
+{
+    if numbers.len() < n {
+        return numbers.len();
+    }
+    n
+}
+
+// the first `len` numbers of both memories
+fn part(what: &[u8], len: usize, tables: &mut [f32], others: &[f32]) {
+    let a = most(tables, len);
+    let b = most(others, len);
+    both(what, velocity(), &mut tables[0..a], &others[0..b]);
+}
+
+// with a number at a place of both
 fn put(what: &[u8], at: usize, bits: u32, len: usize) {
     let mut tables = [0.0f32; TABLES];
     let mut others = [0.0f32; TABLES];
-    if TABLES <= at {
-        return;
-    }
-    tables[at] = hex::of_bits(bits);
-    others[at] = hex::of_bits(bits);
-    if TABLES < len {
-        return;
-    }
-    both(what, velocity(), &mut tables[..len], &others[..len]);
+    store(&mut tables, at, bits);
+    store(&mut others, at, bits);
+    part(what, len, &mut tables, &others);
 }
 
 fn named() {
@@ -152,8 +174,10 @@ fn config(voices: usize) -> Config {
 fn program(voices: usize, amount: u32, output: u32) -> Program {
     let made = program::empty(config(voices));
     let mut next = made.program;
-    next.gains.amount[63] = hex::of_bits(amount);
-    next.gains.output[63] = hex::of_bits(output);
+    let mut gains = next.gains;
+    gains.amount[63] = hex::of_bits(amount);
+    gains.output[63] = hex::of_bits(output);
+    next.gains = gains;
     next
 }
 
@@ -202,9 +226,7 @@ fn curves() {
 }
 
 fn main() {
-    let mut tables = [0.0f32; TABLES];
-    let others = [0.0f32; TABLES];
-    slots(&mut tables, &others);
+    slots();
     named();
     programs();
     curves();
