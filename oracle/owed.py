@@ -6,16 +6,35 @@ decides; README.md says which calls a line stands for and which rows are judged 
 """
 import re
 import struct
+from fractions import Fraction
 
 SPECIAL = [0x7F800000, 0xFF800000, 0x7FC00000, 0x80000000, 1, 0x7F7FFFFF, 0xFF7FFFFF, 0x3F800000]
 
 
+def of_bits(bits):
+    return struct.unpack(">f", struct.pack(">I", bits))[0]
+
+
+def nearest(x):
+    """The bits of the binary32 nearest to a fraction that is not below 0, a tie going to the even one."""
+    bits = struct.unpack(">I", struct.pack(">f", float(x)))[0]
+    near = [b for b in (bits - 1, bits, bits + 1) if 0 <= b < 0x7F800000]
+    return min(near, key=lambda b: (abs(Fraction(of_bits(b)) - x), b % 2))
+
+
+def bits_of(word):
+    """The bits of a number of a session: eight hexadecimal digits, or a decimal."""
+    if re.fullmatch("[0-9A-Fa-f]{8}", word):
+        return int(word, 16)
+    return nearest(abs(Fraction(word))) | (1 << 31 if word.startswith("-") else 0)
+
+
 def finite(word):
-    return int(word, 16) & 0x7F800000 != 0x7F800000
+    return bits_of(word) & 0x7F800000 != 0x7F800000
 
 
 def number(word):
-    return struct.unpack(">f", bytes.fromhex(word))[0]
+    return of_bits(bits_of(word))
 
 
 def in_table(word):

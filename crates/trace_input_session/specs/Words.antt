@@ -6,6 +6,7 @@ use Prim.Native.Nat.{ℕ, _+_, _-_, _*_, _%_, _^_}
 use lib.Dec.{ltb, eqb}
 use lib.ListN.{length}
 use lib.Ieee.{binary32, ofBits}
+use Rattle.decimal.specs.Decimal as Decimal
 use Rattle.hex.specs.Hex.{hexAt, digitOf}
 use Rattle.trace_input_session.specs.declared.FloatWord.{FloatWord}
 use Rattle.trace_input_session.specs.declared.WholeWord.{WholeWord}
@@ -24,16 +25,22 @@ unfoldable pub allHex : List ℕ → Bool
 allHex [] = true
 allHex (b ∷ w) = isHex b && allHex w
 
--- a FLOAT: the 8 hexadecimal digits of a number's bits (oracle/README.md, Session format); any other word is none
+-- a decimal (crates/decimal/specs/Decimal.antt)
+unfoldable pub decimalWord : List ℕ → FloatWord
+decimalWord w = record { good = Decimal.decimalOf w .good; value = Decimal.decimalOf w .value }
+
+-- a number: the 8 hexadecimal digits of its bits, or a decimal (docs/SESSIONS.md, How a line reads); a word that is both is
+-- read as hexadecimal, and any other word is none
 unfoldable pub floatOf : List ℕ → FloatWord
+unfolding decimalWord
 floatOf w =
     cond (eqb (length w) 8)
-    (cond (allHex w) (record { good = true; value = ofBits binary32 (hexAt w 0 8 % 2 ^ 32) }) (record { good = false; value = ofBits binary32 0 }))
-    (record { good = false; value = ofBits binary32 0 })
+    (cond (allHex w) (record { good = true; value = ofBits binary32 (hexAt w 0 8 % 2 ^ 32) }) (decimalWord w))
+    (decimalWord w)
 
 -- "3F80000g" is no number, and neither is "3F8"
 noDigits : (floatOf (51 ∷ 70 ∷ 56 ∷ 48 ∷ 48 ∷ 48 ∷ 48 ∷ 103 ∷ []) .good ≡ false) × (floatOf (51 ∷ 70 ∷ 56 ∷ []) .good ≡ false)
-unfolding floatOf allHex isHex
+unfolding floatOf allHex isHex decimalWord Decimal.decimalOf Decimal.isDecimal Decimal.isPower Decimal.hasPoint Decimal.mark Decimal.rest Decimal.past Decimal.run Decimal.isDigit Decimal.lead Decimal.unsigned Decimal.isSign Decimal.afterPoint Decimal.power Decimal.none
 noDigits = (refl, refl)
 
 -- "3F800000" is 1

@@ -3,7 +3,7 @@
 ghost use mathlib.Core.Path.{_≡_};
 ghost use mathlib.Core.Bool.{false};
 ghost use Prim.Native.Nat.{_≤_};
-ghost use Rattle.trace_input_session.specs.Words.{isHex, allHex, floatOf, sameBytes, decimalOf, wholeOf};
+ghost use Rattle.trace_input_session.specs.Words.{isHex, allHex, decimalWord, floatOf, sameBytes, decimalOf, wholeOf};
 ghost use lib.ListN.{length};
 
 // A whole number, where the word is one.
@@ -12,7 +12,7 @@ pub struct WholeWord {
     pub value: u64,
 }
 
-// A number written as the 8 hexadecimal digits of its bits, where the word is one.
+// A number, where the word is one.
 pub struct FloatWord {
     pub good: bool,
     pub value: f32,
@@ -267,21 +267,26 @@ fn all_hex(w: &[u8]) -> bool
     true
 }
 
-// a word of 8 hexadecimal digits
+// a decimal
+fn decimal_word(w: &[u8]) -> FloatWord
+    ensures { λ r. ⌜ r ≡ decimalWord (now (w .entry)) ⌝ }
+{
+    let d = decimal::read(w);
+    FloatWord {
+        good: d.good,
+        value: d.value,
+    }
+}
+
+// a word of 8 hexadecimal digits, or a decimal
 pub fn float(w: &[u8]) -> FloatWord
     ensures { λ r. ⌜ r ≡ floatOf (now (w .entry)) ⌝ }
 {
     if w.len() != 8 {
-        return FloatWord {
-            good: false,
-            value: 0.0,
-        };
+        return decimal_word(w);
     }
     if !all_hex(w) {
-        return FloatWord {
-            good: false,
-            value: 0.0,
-        };
+        return decimal_word(w);
     }
     FloatWord {
         good: true,

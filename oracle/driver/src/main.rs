@@ -95,13 +95,45 @@ fn int<T: std::str::FromStr>(s: &str) -> Res<T> {
     s.parse().map_err(|_| format!("not a number in range: {s}"))
 }
 
+/// Eight hexadecimal digits, or a decimal.
 fn float(s: &str) -> Res<f32> {
-    if s.len() != 8 {
-        return Err(format!("not eight hexadecimal digits: {s}"));
+    if s.len() == 8 && s.bytes().all(|b| b.is_ascii_hexdigit()) {
+        return Ok(f32::from_bits(u32::from_str_radix(s, 16).map_err(|e| e.to_string())?));
     }
-    u32::from_str_radix(s, 16)
-        .map(f32::from_bits)
-        .map_err(|_| format!("not eight hexadecimal digits: {s}"))
+    if !is_decimal(s) {
+        return Err(format!("no number: {s}"));
+    }
+    s.parse().map_err(|_| format!("no number: {s}"))
+}
+
+/// Whether a word is a decimal that is read (docs/SESSIONS.md, How a line reads).
+fn is_decimal(s: &str) -> bool {
+    let body = s.strip_prefix(['+', '-']).unwrap_or(s);
+    let (digits, power) = match body.split_once(['e', 'E']) {
+        Some((d, p)) => (d, Some(p)),
+        None => (body, None),
+    };
+    let (whole, part) = digits.split_once('.').unwrap_or((digits, ""));
+    let power_digits = power.map_or("0", |p| p.strip_prefix(['+', '-']).unwrap_or(p));
+    let all = |t: &str| t.bytes().all(|b| b.is_ascii_digit());
+    let right = all(whole) && all(part) && all(power_digits) && !power_digits.is_empty();
+    if !right || whole.len() + part.len() == 0 || (power.is_none() && !digits.contains('.')) {
+        return false;
+    }
+    let joined = format!("{whole}{part}");
+    let (m, e) = (joined.trim_start_matches('0'), power_digits.trim_start_matches('0'));
+    if m.len() > 18 || e.len() > 3 {
+        return false;
+    }
+    let size: i64 = e.parse().unwrap_or(0);
+    let down = power.is_some_and(|p| p.starts_with('-'));
+    let last = (if down { -size } else { size }) - part.len() as i64;
+    m.is_empty() || (last < 0 && last >= -17) || (last >= 0 && fits(m, last))
+}
+
+/// Whether m followed by so many zeros is below 2^64.
+fn fits(m: &str, zeros: i64) -> bool {
+    zeros < 20 && format!("{m}{}", "0".repeat(zeros as usize)).parse::<u64>().is_ok()
 }
 
 fn flag(s: &str) -> Res<bool> {
