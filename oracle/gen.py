@@ -785,7 +785,7 @@ def broken(text, seed):
     if r.randrange(8):
         return text
     lines = text.split("\n")
-    i = r.randrange(len(lines))
+    i = r.choice([i for i in range(len(lines)) if not i or not lines[i - 1].startswith("#=")])
     words = [l.split()[0] for l in lines if l.split() and not l.startswith("#")]
     w = r.choice(words)
     k = r.randrange(len(w))
