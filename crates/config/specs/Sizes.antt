@@ -1,6 +1,6 @@
 -- Document 01, Constants. Definitions only; src/lib.rt has the same numbers under the same names.
 use mathlib.Core.Path.{_≡_, refl}
-use Prim.Native.Nat.{ℕ, _+_, _*_, _/_, max}
+use Prim.Native.Nat.{ℕ, _+_, _-_, _*_, _/_, max}
 
 abbrev pub slots : ℕ
 slots = 64
@@ -29,7 +29,11 @@ mostSignalStride = 256
 
 -- "Lane stride is voices rounded up to a multiple of 16, at least 16" (program.rs 25-27)
 abbrev pub laneStride : ℕ → ℕ
-laneStride voices = max lanes ((voices + 15) / lanes * lanes)
+laneStride voices = max lanes ((voices + (lanes - 1)) / lanes * lanes)
+
+-- that of the most voices
+abbrev pub mostStride : ℕ
+mostStride = laneStride mostVoices
 
 -- "A block has at most frames / 32 + 2 chunks" (program.rs 32-34)
 abbrev pub mostChunks : ℕ → ℕ

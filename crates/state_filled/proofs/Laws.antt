@@ -1,4 +1,4 @@
--- Lists of at most 64 things: an array holds the list that it was filled with, and one more is put behind it. Assumes nothing.
+-- Lists of at most as many things as there are slots: an array holds the list that it was filled with, and one more is put behind it. Assumes nothing.
 use mathlib.Core.Path.{_≡_, refl, sym, ap, _∙_}
 use mathlib.Core.List.{List, [], _∷_, _++_}
 use Prim.Native.Nat.{ℕ, _+_, _<_}

@@ -1,4 +1,4 @@
--- Lists of at most 64 things, as arrays that are filled from their start hold them. Definitions only.
+-- Lists of at most as many things as there are slots, as arrays that are filled from their start hold them. Definitions only.
 use mathlib.Core.Bool.{cond, false}
 use mathlib.Core.List.{List}
 use Prim.Native.Nat.{ℕ, _+_}

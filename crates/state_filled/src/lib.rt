@@ -1,4 +1,4 @@
-// Lists of at most 64 things, in arrays that are filled from their start.
+// Lists of at most as many things as there are slots, in arrays that are filled from their start.
 ghost use mathlib.Core.Path.{_≡_};
 ghost use mathlib.Core.List.{[]};
 ghost use Prim.Native.Nat.{min};

@@ -1,4 +1,4 @@
--- Ranks: a note-on keeps them the numbers below 64, each once, and they order the voices as the Rust's numbers do. Assumes nothing.
+-- Ranks: a note-on keeps them the numbers below that of the voices, each once, and they order the voices as the Rust's numbers do. Assumes nothing.
 use mathlib.Core.Path.{_≡_, refl, sym, ap, _∙_}
 use mathlib.Core.Logic.{_≢_, _⊎_, inl, inr, _↔_}
 use mathlib.Core.List.{List, [], _∷_, map}
@@ -142,7 +142,7 @@ module _ (rank : List ℕ) (r : Ranks rank) (v : ℕ) where
     ]
   ]
 
-  -- A NOTE-ON KEEPS THEM: each number below 64 once
+  -- A NOTE-ON KEEPS THEM: each number below that of the voices once
   pub ranks-on : v < mostVoices → Ranks (ranksOn rank v)
   ranks-on hv = record { long = on-length; below = on-below hv; apart = on-apart hv; each = on-each hv }
 

@@ -122,7 +122,7 @@ right-noted s r (on v) = right-on s r v
 right-noted s r (off v) = r
 right-noted s r (ended v) = right-ended s r v
 
--- AFTER ANY CALLS the ranks are the numbers below 64, each once, and the newest is the active voice that sounded last
+-- AFTER ANY CALLS the ranks are the numbers below that of the voices, each once, and the newest is the active voice that sounded last
 pub right-after : (l : List Note) → Right (voicesAfter l)
 unfolding voicesAfter
 right-after [] = right-first

@@ -46,7 +46,7 @@ pub record Has (rank : List ℕ) (k : ℕ) : Type 0 where
   pub inside : voice < mostVoices
   pub is : rankOf rank voice ≡ k
 
--- 64 ranks: each number below 64 once
+-- a rank a voice: each number below their number once
 pub record Ranks (rank : List ℕ) : Type 0 where
   pub long : length rank ≡ mostVoices
   pub below : (a : ℕ) → a < mostVoices → rankOf rank a < mostVoices
@@ -85,7 +85,7 @@ noteOns (on v ∷ earlier) = let rest = noteOns earlier in cond (ltb v mostVoice
 noteOns (off v ∷ earlier) = noteOns earlier
 noteOns (ended v ∷ earlier) = noteOns earlier
 
--- what every call keeps: 64 ranks, and the newest is the active voice that sounded last
+-- what every call keeps: a rank a voice, and the newest is the active voice that sounded last
 pub record Right (s : Voices) : Type 0 where
   pub long : length (s .active) ≡ mostVoices
   pub ranks : Ranks (s .rank)

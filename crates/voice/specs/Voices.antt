@@ -1,6 +1,6 @@
 -- Which voices sound, and in which order they sounded last (engine.rs 291-298, 456-459, 501-519). Definitions only.
 -- The Rust gives each voice the number of its last note-on, counted from the engine's start. Here a voice has a rank, the number of voices that
--- sounded since: 64 ranks never run out, and order the voices as the Rust's numbers do (proofs/Ranks.antt).
+-- sounded since: such ranks never run out, and order the voices as the Rust's numbers do (proofs/Ranks.antt).
 use mathlib.Core.Bool.{Bool, true, false, cond}
 use mathlib.Core.List.{List, [], _∷_, map}
 use Prim.Native.Nat.{ℕ, zero, suc, _+_}

@@ -4,6 +4,7 @@ use native.Mathlib.Omega.{arith}
 use borrow.Author.Needs.{needs}
 use lib.ListN.{length}
 use Rattle.list.proofs.Elements.{getD-inside, getD-past, length-mapped}
+use Rattle.config.specs.Sizes.{mostSources}
 use Rattle.state_registry.proofs.source_at.Statement.{statement}
 use Rattle.state_registry.proofs.source_at.Tie as tie
 
@@ -16,7 +17,7 @@ element-copy-out-result c = search needs
 returns : tie.Need-returns
 returns c =
     let a = c .before .before .args in
-    let e : length (a .t1 .entry) ≡ 128 = search (needs, length-mapped) in
+    let e : length (a .t1 .entry) ≡ mostSources = search (needs, length-mapped) in
     getD-inside (a .t1 .entry) (a .i) _ _ (omega arith)
 
 no-source-requires : tie.Need-no-source-requires
@@ -25,7 +26,7 @@ no-source-requires c κs = search needs
 returns-2 : tie.Need-returns-2
 returns-2 c =
     let a = c .before .before .args in
-    let e : length (a .t1 .entry) ≡ 128 = search (needs, length-mapped) in
+    let e : length (a .t1 .entry) ≡ mostSources = search (needs, length-mapped) in
     c .no-source .ensures ∙ sym (getD-past (a .t1 .entry) (a .i) _ (omega arith))
 
 pub source-at-spec : {M : Type 1} → statement M

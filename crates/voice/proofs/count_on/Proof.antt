@@ -3,6 +3,7 @@ use mathlib.Core.Path.{_≡_, refl, _∙_}
 use Prim.Native.Nat.{_≤_, _-_}
 use lib.ListN.{length, getD, take}
 use native.Mathlib.Omega.{arith}
+use Rattle.config.specs.Sizes.{mostVoices}
 use Rattle.voice.proofs.Counted.{count-next, most-one}
 use Rattle.voice.specs.Voices.{countOn}
 use mathlib.Core.Bool.{false}
@@ -37,7 +38,7 @@ loop-less c = omega arith
 loop-again : tie.Need-loop-again Inv-loop μ-loop
 loop-again c =
     let a = c .before .before .before .args in
-    let long : length (a .t1) ≡ 64 = search needs in
+    let long : length (a .t1) ≡ mostVoices = search needs in
     let l = c .before .before .loop in
     (omega arith, omega (arith, most-one (getD (a .t1) (l .v) false) _ (c .one-if .ensures)), rw (c .one-if .ensures, l .inv .2) (count-next (a .t1) (l .v) (omega arith)))
 

@@ -5,16 +5,17 @@ use lib.ListN.{getD}
 use native.Mathlib.Omega.{arith}
 use Rattle.list.proofs.Filled.{Filled, filled-none, filled-read, filled-more, filled-all}
 use mathlib.Core.Bool.{false, _||_}
+use Rattle.config.specs.Sizes.{mostVoices}
 use Rattle.voice.proofs.Elements.{fill-first}
 use borrow.Author.Needs.{needs}
 use Rattle.voice.proofs.either.Statement.{statement}
 use Rattle.voice.proofs.either.Tie as tie
 
 abbrev Inv-loop : tie.InvT-loop
-Inv-loop others out₀ v₀ out v = (v ≤ 64) × Filled out₀ (λ (i : ℕ). getD out₀ i false || getD others i false) v out
+Inv-loop others out₀ v₀ out v = (v ≤ mostVoices) × Filled out₀ (λ (i : ℕ). getD out₀ i false || getD others i false) v out
 
 abbrev μ-loop : tie.MeasureT-loop
-μ-loop others out₀ v₀ out v = 64 - v
+μ-loop others out₀ v₀ out v = mostVoices - v
 
 loop-holds : tie.Need-loop-holds Inv-loop μ-loop
 loop-holds c = (omega arith, filled-none _ _)
@@ -45,7 +46,7 @@ loop-again c =
 returns : tie.Need-returns Inv-loop μ-loop
 returns c =
     let a = c .before .before .args in
-    filled-all (c .before .loop .inv .1) (omega arith) ∙ fill-first (a .marks) (a .t2) false false 64 (search needs) (search needs) _||_
+    filled-all (c .before .loop .inv .1) (omega arith) ∙ fill-first (a .marks) (a .t2) false false mostVoices (search needs) (search needs) _||_
 
 pub either-spec : {M : Type 1} → statement M
 either-spec =

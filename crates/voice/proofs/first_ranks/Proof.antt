@@ -4,14 +4,15 @@ use Prim.Native.Nat.{ℕ, _≤_, _-_}
 use native.Mathlib.Omega.{arith}
 use Rattle.list.proofs.Filled.{Filled, filled-none, filled-more, filled-all}
 use Rattle.list.specs.Fill.{fill}
+use Rattle.config.specs.Sizes.{mostVoices}
 use Rattle.voice.proofs.first_ranks.Statement.{statement}
 use Rattle.voice.proofs.first_ranks.Tie as tie
 
 abbrev Inv-loop : tie.InvT-loop
-Inv-loop out₀ k₀ out k = (k ≤ 64) × Filled out₀ (λ (i : ℕ). i) k out
+Inv-loop out₀ k₀ out k = (k ≤ mostVoices) × Filled out₀ (λ (i : ℕ). i) k out
 
 abbrev μ-loop : tie.MeasureT-loop
-μ-loop out₀ k₀ out k = 64 - k
+μ-loop out₀ k₀ out k = mostVoices - k
 
 loop-holds : tie.Need-loop-holds Inv-loop μ-loop
 loop-holds c = (omega arith, filled-none _ _)
@@ -33,7 +34,7 @@ loop-again c = (omega arith, filled-more (c .before .loop .inv .1) refl)
 
 returns : tie.Need-returns Inv-loop μ-loop
 unfolding fill
-returns c = filled-all {n = 64} (c .before .loop .inv .1) (omega arith)
+returns c = filled-all {n = mostVoices} (c .before .loop .inv .1) (omega arith)
 
 pub first-ranks-spec : {M : Type 1} → statement M
 first-ranks-spec =

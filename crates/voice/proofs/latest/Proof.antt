@@ -2,6 +2,7 @@
 use mathlib.Core.Path.{_≡_, refl, _∙_}
 use Prim.Native.Nat.{_≤_, _-_}
 use native.Mathlib.Omega.{arith}
+use Rattle.config.specs.Sizes.{mostVoices}
 use Rattle.voice.proofs.Counted.{latest-next}
 use Rattle.voice.specs.Voices.{latest}
 use borrow.Author.Needs.{needs}
@@ -9,10 +10,10 @@ use Rattle.voice.proofs.latest.Statement.{statement}
 use Rattle.voice.proofs.latest.Tie as tie
 
 abbrev Inv-loop : tie.InvT-loop
-Inv-loop rank active newest₀ v₀ newest v = (v ≤ 64) × (newest ≡ latest active rank v)
+Inv-loop rank active newest₀ v₀ newest v = (v ≤ mostVoices) × (newest ≡ latest active rank v)
 
 abbrev μ-loop : tie.MeasureT-loop
-μ-loop rank active newest₀ v₀ newest v = 64 - v
+μ-loop rank active newest₀ v₀ newest v = mostVoices - v
 
 loop-holds : tie.Need-loop-holds Inv-loop μ-loop
 loop-holds c = (omega arith, refl)
@@ -37,7 +38,7 @@ loop-again c =
 
 returns : tie.Need-returns Inv-loop μ-loop
 returns c =
-    let e : c .before .loop .v ≡ 64 = omega arith in
+    let e : c .before .loop .v ≡ mostVoices = omega arith in
     c .before .loop .inv .1 ∙ rw e
 
 pub latest-spec : {M : Type 1} → statement M

@@ -5,6 +5,7 @@ use lib.ListN.{getD}
 use native.Mathlib.Omega.{arith}
 use Rattle.list.proofs.Filled.{Filled, filled-none, filled-read, filled-more, filled-all}
 use lib.Ieee.{nan}
+use Rattle.config.specs.Sizes.{mostVoices}
 use Rattle.voice.proofs.Elements.{fill-second}
 use Rattle.list.proofs.Elements.{length-mapped}
 use Rattle.voice.specs.Notes.{unread, movedGlide}
@@ -13,10 +14,10 @@ use Rattle.voice.proofs.moved_glides.Statement.{statement}
 use Rattle.voice.proofs.moved_glides.Tie as tie
 
 abbrev Inv-loop : tie.InvT-loop
-Inv-loop frames value out₀ v₀ out v = (v ≤ 64) × Filled out₀ (λ (i : ℕ). movedGlide frames (getD value i nan) (getD out₀ i unread)) v out
+Inv-loop frames value out₀ v₀ out v = (v ≤ mostVoices) × Filled out₀ (λ (i : ℕ). movedGlide frames (getD value i nan) (getD out₀ i unread)) v out
 
 abbrev μ-loop : tie.MeasureT-loop
-μ-loop frames value out₀ v₀ out v = 64 - v
+μ-loop frames value out₀ v₀ out v = mostVoices - v
 
 loop-holds : tie.Need-loop-holds Inv-loop μ-loop
 loop-holds c = (omega arith, filled-none _ _)
@@ -56,7 +57,7 @@ loop-again c =
 returns : tie.Need-returns Inv-loop μ-loop
 returns c =
     let a = c .before .before .args in
-    filled-all (c .before .loop .inv .1) (omega arith) ∙ fill-second (a .t1) (a .glide) nan unread 64 (search needs) (search (needs, length-mapped)) (movedGlide (a .frames))
+    filled-all (c .before .loop .inv .1) (omega arith) ∙ fill-second (a .t1) (a .glide) nan unread mostVoices (search needs) (search (needs, length-mapped)) (movedGlide (a .frames))
 
 pub moved-glides-spec : {M : Type 1} → statement M
 moved-glides-spec =

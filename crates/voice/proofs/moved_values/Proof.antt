@@ -5,6 +5,7 @@ use lib.ListN.{getD}
 use native.Mathlib.Omega.{arith}
 use Rattle.list.proofs.Filled.{Filled, filled-none, filled-read, filled-more, filled-all}
 use lib.Ieee.{nan}
+use Rattle.config.specs.Sizes.{mostVoices}
 use Rattle.voice.proofs.Elements.{fill-first}
 use Rattle.list.proofs.Elements.{length-mapped}
 use Rattle.voice.specs.Notes.{unread, movedValue}
@@ -13,10 +14,10 @@ use Rattle.voice.proofs.moved_values.Statement.{statement}
 use Rattle.voice.proofs.moved_values.Tie as tie
 
 abbrev Inv-loop : tie.InvT-loop
-Inv-loop frames glide out₀ v₀ out v = (v ≤ 64) × Filled out₀ (λ (i : ℕ). movedValue frames (getD out₀ i nan) (getD glide i unread)) v out
+Inv-loop frames glide out₀ v₀ out v = (v ≤ mostVoices) × Filled out₀ (λ (i : ℕ). movedValue frames (getD out₀ i nan) (getD glide i unread)) v out
 
 abbrev μ-loop : tie.MeasureT-loop
-μ-loop frames glide out₀ v₀ out v = 64 - v
+μ-loop frames glide out₀ v₀ out v = mostVoices - v
 
 loop-holds : tie.Need-loop-holds Inv-loop μ-loop
 loop-holds c = (omega arith, filled-none _ _)
@@ -57,7 +58,7 @@ loop-again c =
 returns : tie.Need-returns Inv-loop μ-loop
 returns c =
     let a = c .before .before .args in
-    filled-all (c .before .loop .inv .1) (omega arith) ∙ fill-first (a .value) (a .t2) nan unread 64 (search needs) (search (needs, length-mapped)) (movedValue (a .frames))
+    filled-all (c .before .loop .inv .1) (omega arith) ∙ fill-first (a .value) (a .t2) nan unread mostVoices (search needs) (search (needs, length-mapped)) (movedValue (a .frames))
 
 pub moved-values-spec : {M : Type 1} → statement M
 moved-values-spec =

@@ -4,6 +4,7 @@ use Prim.Native.Nat.{ℕ, _≤_, _-_}
 use lib.ListN.{getD}
 use native.Mathlib.Omega.{arith}
 use Rattle.list.proofs.Filled.{Filled, filled-none, filled-read, filled-more, filled-all}
+use Rattle.config.specs.Sizes.{mostVoices}
 use Rattle.voice.proofs.Elements.{fill-map}
 use Rattle.voice.specs.Voices.{raised}
 use borrow.Author.Needs.{needs}
@@ -11,10 +12,10 @@ use Rattle.voice.proofs.raised_ranks.Statement.{statement}
 use Rattle.voice.proofs.raised_ranks.Tie as tie
 
 abbrev Inv-loop : tie.InvT-loop
-Inv-loop limit out₀ k₀ out k = (k ≤ 64) × Filled out₀ (λ (i : ℕ). raised limit (getD out₀ i 0)) k out
+Inv-loop limit out₀ k₀ out k = (k ≤ mostVoices) × Filled out₀ (λ (i : ℕ). raised limit (getD out₀ i 0)) k out
 
 abbrev μ-loop : tie.MeasureT-loop
-μ-loop limit out₀ k₀ out k = 64 - k
+μ-loop limit out₀ k₀ out k = mostVoices - k
 
 loop-holds : tie.Need-loop-holds Inv-loop μ-loop
 loop-holds c = (omega arith, filled-none _ _)
@@ -40,7 +41,7 @@ loop-again c =
     (omega arith, filled-more f (c .raised-rank .ensures ∙ ap (raised (c .before .before .before .args .limit)) (filled-read 0 f)))
 
 returns : tie.Need-returns Inv-loop μ-loop
-returns c = filled-all (c .before .loop .inv .1) (omega arith) ∙ fill-map (raised (c .before .before .args .limit)) _ 0 64 (search needs)
+returns c = filled-all (c .before .loop .inv .1) (omega arith) ∙ fill-map (raised (c .before .before .args .limit)) _ 0 mostVoices (search needs)
 
 pub raised-ranks-spec : {M : Type 1} → statement M
 raised-ranks-spec =

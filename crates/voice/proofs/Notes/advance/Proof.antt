@@ -3,6 +3,7 @@ use mathlib.Core.Path.{_≡_, sym, _∙_}
 use borrow.Author.Tests.{not-true}
 use lib.ListN.{length}
 use Rattle.list.proofs.Elements.{length-mapped}
+use Rattle.config.specs.Sizes.{mostVoices}
 use Rattle.voice.proofs.Glides.{advanced-still}
 use Rattle.voice.specs.Notes.{advanced}
 use borrow.Author.Needs.{needs}
@@ -15,8 +16,8 @@ any-moving-requires c κs = search needs
 returns : tie.Need-returns
 returns c =
     let a = c .before .before .before .args in
-    let long : length (a .self .value) ≡ 64 = search (needs, length-mapped) in
-    let as-long : length (a .self .glide) ≡ 64 = search (needs, length-mapped) in
+    let long : length (a .self .value) ≡ mostVoices = search (needs, length-mapped) in
+    let as-long : length (a .self .glide) ≡ mostVoices = search (needs, length-mapped) in
     sym (advanced-still (a .self) (a .frames) (long ∙ sym as-long) (sym (c .before .any-moving .ensures) ∙ not-true (c .before .any-moving .result) (c .if1 .taken)))
 
 nearest-u64-to-f32-requires : tie.Need-nearest-u64-to-f32-requires

@@ -1,6 +1,7 @@
 -- `Voices::active_count` meets its contract.
 use mathlib.Core.Path.{_≡_, ap, _∙_}
 use lib.ListN.{length}
+use Rattle.config.specs.Sizes.{mostVoices}
 use Rattle.voice.proofs.Counted.{take-beyond}
 use Rattle.voice.specs.Voices.{countOn, activeCount}
 use borrow.Author.Needs.{needs}
@@ -21,7 +22,7 @@ returns-2 : tie.Need-returns-2
 unfolding activeCount
 returns-2 c =
     let a = c .before .before .before .args in
-    let long : length (a .self .active) ≡ 64 = search needs in
+    let long : length (a .self .active) ≡ mostVoices = search needs in
     c .count-on2 .ensures ∙ ap countOn (take-beyond (a .self .active) (a .n) long (c .before .if1 .left))
 
 pub active-count-spec : {M : Type 1} → statement M

@@ -2,6 +2,7 @@
 use mathlib.Core.Path.{_≡_, refl, sym}
 use native.Mathlib.Omega.{arith}
 use Rattle.list.proofs.Elements.{getD-past}
+use Rattle.config.specs.Sizes.{mostVoices}
 use Rattle.voice.specs.Voices.{isSounding}
 use lib.ListN.{length}
 use mathlib.Core.Bool.{false}
@@ -20,7 +21,7 @@ returns-2 : tie.Need-returns-2
 unfolding isSounding
 returns-2 c =
     let a = c .before .args in
-    let long : length (a .t1 .active) ≡ 64 = search needs in
+    let long : length (a .t1 .active) ≡ mostVoices = search needs in
     sym (getD-past (a .t1 .active) (a .voice) false (omega arith))
 
 pub is-active-spec : {M : Type 1} → statement M
