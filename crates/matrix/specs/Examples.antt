@@ -2,6 +2,7 @@
 use mathlib.Core.Path.{_≡_, refl}
 use mathlib.Core.Bool.{true, false}
 use mathlib.Core.List.{[], _∷_}
+use Prim.Native.Nat.{_-_}
 use lib.IntN.{negsuc}
 use lib.ListN.{replicate}
 use lib.Ieee.{nan, inf, fin, neg, isNan, sub, lt, le}
@@ -9,6 +10,7 @@ use Rattle.refusal.specs.Judge.{judged}
 use Rattle.list.specs.Part.{part}
 use Rattle.list.specs.Rows.{rowAt}
 use Rattle.number.specs.Number.{zero32, half32, one32, finite, min32, absOf, clampTo}
+use Rattle.config.specs.Sizes.{slots}
 use Rattle.curve_table.specs.Table.{allowed, allAllowed}
 use Rattle.curve_table.specs.Curve.{secondsFinite}
 use Rattle.curve_table.specs.declared.Curve.the-variants as C
@@ -33,13 +35,13 @@ use Rattle.matrix.specs.declared.CurveSlot.the-variants as W
 use Rattle.matrix.specs.declared.Place.the-variants as P
 use Rattle.matrix.specs.declared.SortBy.the-variants as S
 
--- slot 63 is there; 64 is row 5, with the empty slot
-slots-read : (slotAt newMatrix 63 ≡ record { code = 0; slot = emptySlot }) × (slotAt newMatrix 64 ≡ record { code = 5; slot = emptySlot })
+-- the last slot is there; the number of slots is row 5, with the empty slot
+slots-read : (slotAt newMatrix (slots - 1) ≡ record { code = 0; slot = emptySlot }) × (slotAt newMatrix slots ≡ record { code = 5; slot = emptySlot })
 unfolding slotAt slotOf newMatrix judged
 slots-read = (refl, refl)
 
 -- a NaN is row 6, past the last slot row 5
-codes : (setSlotAmount newMatrix 63 nan .code ≡ 6) × (setSlotAmount newMatrix 64 nan .code ≡ 5) × (setSlotAmount newMatrix 63 one32 .code ≡ 0) × (setSlotAmount newMatrix 0 (inf true) .code ≡ 6)
+codes : (setSlotAmount newMatrix (slots - 1) nan .code ≡ 6) × (setSlotAmount newMatrix slots nan .code ≡ 5) × (setSlotAmount newMatrix (slots - 1) one32 .code ≡ 0) × (setSlotAmount newMatrix 0 (inf true) .code ≡ 6)
 unfolding setSlotAmount edited answered judged finite
 codes = (refl, refl, refl, refl)
 
@@ -54,7 +56,7 @@ route : Slot
 route = routeSlot 5 (T.Param 7) one32 L.Bipolar
 
 full : Matrix
-full = withSlots newMatrix (replicate 64 route)
+full = withSlots newMatrix (replicate slots route)
 
 -- the first empty slot; a full matrix is no number; a NaN is row 6
 adding : (addRoute newMatrix 5 (T.Param 7) (fin false 3 (negsuc 0)) L.Bipolar ≡ record { code = 0; place = P.At 0; matrix = withSlot newMatrix 0 route }) × (addRoute (withSlot newMatrix 0 route) 5 (T.Param 7) one32 L.Bipolar .place ≡ P.At 1) × (addRoute full 5 (T.Param 7) one32 L.Bipolar ≡ record { code = 0; place = P.Full; matrix = full }) × (addRoute full 5 (T.Param 7) nan L.Bipolar ≡ record { code = 6; place = P.Refused; matrix = full })
@@ -62,7 +64,7 @@ unfolding addRoute placed judged finite keptAmount clampTo lt firstEmpty isEmpty
 adding = (refl, refl, refl, refl)
 
 -- every slot with that destination becomes empty; an LFO bus is no parameter
-removing : (removeDestination full (T.Param 7) ≡ record { count = 64; matrix = newMatrix }) × (removeDestination full (T.LfoBus 7 0) ≡ record { count = 0; matrix = full })
+removing : (removeDestination full (T.Param 7) ≡ record { count = slots; matrix = newMatrix }) × (removeDestination full (T.LfoBus 7 0) ≡ record { count = 0; matrix = full })
 unfolding removeDestination countAims cleared newMatrix withSlots emptySlot routeSlot route full
 removing = (refl, refl)
 
@@ -90,7 +92,7 @@ velocities = refl
 -- ---- tables
 
 -- an empty table, with no memory: row 5 past the last slot, row 14 before 15; a NaN in it is row 6
-table-codes : (setCurve newMatrix [] 64 W.Source [] zero32 zero32 .answer .code ≡ 5) × (setCurve newMatrix [] 63 W.Aux [] zero32 zero32 .answer .code ≡ 14) × (setCurve newMatrix [] 63 W.Aux (nan ∷ []) zero32 zero32 .answer .code ≡ 6) × (setCurve newMatrix [] 63 W.Aux [] nan zero32 .answer .code ≡ 6)
+table-codes : (setCurve newMatrix [] slots W.Source [] zero32 zero32 .answer .code ≡ 5) × (setCurve newMatrix [] (slots - 1) W.Aux [] zero32 zero32 .answer .code ≡ 14) × (setCurve newMatrix [] (slots - 1) W.Aux (nan ∷ []) zero32 zero32 .answer .code ≡ 6) × (setCurve newMatrix [] (slots - 1) W.Aux [] nan zero32 .answer .code ≡ 6)
 unfolding setCurve tabled answered judged curveAllowed allAllowed allowed finite le
 table-codes = (refl, refl, refl, refl)
 

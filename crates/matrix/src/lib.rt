@@ -1,8 +1,9 @@
-// The matrix as data: 64 slots, their edits, and the tables lent with them. The definitions that contracts cite are in specs/.
+// The matrix as data: its slots, their edits, and the tables lent with them. The definitions that contracts cite are in specs/.
 ghost use mathlib.Core.Path.{_≡_};
 ghost use mathlib.Core.List.{[], _∷_};
 ghost use Prim.Native.Nat.{_<_};
 ghost use Rattle.refusal.specs.Judge.{judged};
+ghost use Rattle.config.specs.Sizes.{slots};
 ghost use Rattle.slots.specs.Slots.{emptySlot, isEmptySlot};
 ghost use Rattle.slots_tables.specs.Tables.{places};
 ghost use Rattle.slots.specs.Matrix.{newMatrix, slotsOf, withSlot};
@@ -470,7 +471,7 @@ pub fn set_note_linear(matrix: Matrix, which: NoteSlot) -> Matrix
 
 // the number of the place of a slot's curve
 fn place_of(n: usize, which: CurveSlot) -> usize
-    requires { ⌜ n < 64 ⌝ }
+    requires { ⌜ n < slots ⌝ }
     ensures { λ r. ⌜ (r ≡ placeOf n which) × (r < places) ⌝ }
 {
     match which {

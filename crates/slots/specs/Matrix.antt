@@ -1,4 +1,4 @@
--- The matrix of 64 slots, and the matrix with one part replaced (document 01, Slot; matrix.rs 138-169). Definitions only.
+-- The matrix's slots, and the matrix with one part replaced (document 01, Slot; matrix.rs 138-169). Definitions only.
 use mathlib.Core.Bool.{Bool, false}
 use mathlib.Core.List.{List}
 use Prim.Native.Nat.{ℕ}
@@ -10,7 +10,7 @@ use Rattle.state.specs.declared.Slot.{Slot}
 use Rattle.state.specs.declared.Matrix.{Matrix}
 use Rattle.slots.specs.Slots.{emptySlot}
 
--- 64 empty slots, linear note curves, no glide, no velocity at a legato note (matrix.rs 147-162; curve.rs 126-135)
+-- every slot empty, linear note curves, no glide, no velocity at a legato note (matrix.rs 147-162; curve.rs 126-135)
 unfoldable pub newMatrix : Matrix
 newMatrix = record { slot = replicate slots emptySlot; velocity = N.Linear; key = N.Linear; glide = false; «velocity_legato» = false }
 

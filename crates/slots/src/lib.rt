@@ -1,4 +1,4 @@
-// A slot of the matrix, the walks over its 64 slots, and the matrix with a part replaced. The definitions that contracts cite are in specs/.
+// A slot of the matrix, the walks over its slots, and the matrix with a part replaced. The definitions that contracts cite are in specs/.
 ghost use mathlib.Core.Path.{_≡_};
 ghost use mathlib.Core.List.{map};
 ghost use Prim.Native.Nat.{_≤_};
@@ -245,7 +245,7 @@ pub fn all_finite(slot: [Slot; SLOTS]) -> bool
 
 // ---- the first empty slot
 
-// the number of the first empty slot, or 64
+// the number of the first empty slot, or the number of slots
 pub fn first_empty(slot: [Slot; SLOTS]) -> usize
     ensures { λ r. ⌜ r ≡ firstEmpty slot ⌝ }
 {

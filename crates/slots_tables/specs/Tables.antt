@@ -1,11 +1,12 @@
--- The matrix's lent tables: 130 places of 513 numbers (docs/CALLS.md, Memories). Definitions only.
+-- The matrix's lent tables: places of a table's numbers (docs/CALLS.md, Memories). Definitions only.
 use mathlib.Core.Path.{_≡_, refl}
 use mathlib.Core.Bool.{Bool, true, false, not, _&&_, _||_}
 use mathlib.Core.List.{List, [], _∷_}
-use Prim.Native.Nat.{ℕ, suc, _+_, _*_}
+use Prim.Native.Nat.{ℕ, suc, _+_, _-_, _*_}
 use lib.Ieee.{Float}
 use Rattle.list.specs.Part.{part, onPart}
 use Rattle.list.specs.Rows.{rowAt, onRow}
+use Rattle.config.specs.Sizes.{slots}
 use Rattle.curve_table.specs.Table.{points, allAllowed}
 use Rattle.curve_table.specs.Curve.{isLinear}
 use Rattle.state.specs.declared.NoteCurve.{NoteCurve}
@@ -15,21 +16,21 @@ use Rattle.state.specs.declared.Matrix.{Matrix}
 
 -- two places a slot, the source's before the aux's, then the velocity curve's and the key curve's
 abbrev pub places : ℕ
-places = 130
+places = 2 * slots + 2
 
 -- of slot n at position p: 0 the source's, 1 the aux's
 abbrev pub slotPlace : ℕ → ℕ → ℕ
 slotPlace n p = 2 * n + p
 
 abbrev pub velocityPlace : ℕ
-velocityPlace = 128
+velocityPlace = 2 * slots
 
 abbrev pub keyPlace : ℕ
-keyPlace = 129
+keyPlace = 2 * slots + 1
 
 -- what all places take
 abbrev pub tablesNeed : ℕ
-tablesNeed = 66690
+tablesNeed = places * points
 
 -- the tables with the one at a place replaced
 unfoldable pub withTable : List Float → ℕ → List Float → List Float
@@ -80,9 +81,6 @@ unfoldable pub namedAllowed : Matrix → List Float → Bool
 namedAllowed m tables =
     allowedWhere (isTable (m .velocity)) tables velocityPlace && (allowedWhere (isTable (m .key)) tables keyPlace && slotsAllowed tables 0 (m .slot))
 
-need-of-places : places * points ≡ tablesNeed
-need-of-places = refl
-
--- the places do not meet: slot 63's last is 127
-last-slot : (slotPlace 63 0 ≡ 126) × (slotPlace 63 1 ≡ 127)
-last-slot = (refl, refl)
+-- the places do not meet: after the last slot's come the note curves', and then no more
+last-slot : (slotPlace (slots - 1) 1 + 1 ≡ velocityPlace) × (velocityPlace + 1 ≡ keyPlace) × (keyPlace + 1 ≡ places)
+last-slot = (refl, refl, refl)

@@ -6,6 +6,7 @@ ghost use Prim.Native.Nat.{_≤_, _<_};
 ghost use lib.Dec.{eqb, ltb};
 ghost use lib.ListN.{length};
 ghost use Rattle.refusal.specs.Judge.{judged, _when_};
+ghost use Rattle.config.specs.Sizes.{slots};
 ghost use Rattle.curve_table.specs.Table.{points};
 ghost use Rattle.slots_tables.specs.Rows.{finiteRow, curveAllowed};
 ghost use Rattle.slots_tables.specs.Tables.{places, slotPlace, tablesNeed, withTable, withTables, isTable, slotNames, anyNames, namesTable, placeAllowed, allowedWhere, slotAllowed, slotsAllowed, namedAllowed};
@@ -15,16 +16,19 @@ use state::Matrix;
 use state::NoteCurve;
 use state::Slot;
 
-// what the tables of a matrix take: 130 places of 513 numbers
-pub const TABLES: usize = 66690;
+// two places a slot, then the velocity curve's and the key curve's
+pub const VELOCITY_PLACE: usize = 2 * SLOTS;
 
-pub const VELOCITY_PLACE: usize = 128;
+pub const KEY_PLACE: usize = 2 * SLOTS + 1;
 
-pub const KEY_PLACE: usize = 129;
+pub const PLACES: usize = 2 * SLOTS + 2;
+
+// what the tables of a matrix take
+pub const TABLES: usize = PLACES * POINTS;
 
 // the place of slot n at a position, 0 the source's, 1 the aux's
 pub fn slot_place(n: usize, position: usize) -> usize
-    requires { ⌜ (n < 64) × (position < 2) ⌝ }
+    requires { ⌜ (n < slots) × (position < 2) ⌝ }
     ensures { λ r. ⌜ (r ≡ slotPlace n position) × (r < places) ⌝ }
 {
     2 * n + position
@@ -136,7 +140,7 @@ fn allowed_where(named: bool, tables: &[f32], place: usize) -> bool
 
 // the two places of slot n
 fn slot_allowed(tables: &[f32], n: usize, slot: Slot) -> bool
-    requires { ⌜ n < 64 ⌝ }
+    requires { ⌜ n < slots ⌝ }
     ensures { λ r. ⌜ r ≡ slotAllowed (now (tables .entry)) n slot ⌝ }
 {
     let source_curve = slot.source_curve;

@@ -4,6 +4,7 @@ use native.Mathlib.Omega.{arith}
 use borrow.Author.Needs.{needs}
 use borrow.Author.Tests.{eq-eqb, ne-eqb}
 use lib.ListN.{length, length-map}
+use Rattle.config.specs.Sizes.{slots}
 use Rattle.slots.specs.Matrix.{withSlots, withSlot}
 use Rattle.matrix.specs.Edits.{answered}
 use Rattle.matrix.proofs.Laws.{with-slot-past}
@@ -18,7 +19,7 @@ returns-2 : tie.Need-returns-2
 unfolding answered
 returns-2 c =
     let a = c .before .before .args in
-    let long : length (a .matrix .slot) ≡ 64 = simp length-map at (c .before .before .good .1 .0 .1 .1 .0 .1 .0 .1) in
+    let long : length (a .matrix .slot) ≡ slots = simp length-map at (c .before .before .good .1 .0 .1 .1 .0 .1 .0 .1) in
     simp (eq-eqb _ _ (c .before .if1 .left), with-slot-past (a .matrix) (a .n) (a .slot) (omega arith))
 
 mul-slot : tie.Need-mul-slot

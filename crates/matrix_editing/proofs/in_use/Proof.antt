@@ -4,16 +4,17 @@ use Prim.Native.Nat.{_-_, _≤_}
 use native.Mathlib.Omega.{arith}
 use borrow.Author.Needs.{needs}
 use lib.ListN.{length, drop}
+use Rattle.config.specs.Sizes.{slots}
 use Rattle.matrix_editing.specs.Free.{inUse}
 use Rattle.matrix_editing.proofs.Laws.{used-here, used-later, used-past}
 use Rattle.matrix_editing.proofs.in_use.Statement.{statement}
 use Rattle.matrix_editing.proofs.in_use.Tie as tie
 
 abbrev Inv-loop : tie.InvT-loop
-Inv-loop source slot i₀ i = (i ≤ 64) × (length slot ≡ 64) × (inUse source slot ≡ inUse source (drop i slot))
+Inv-loop source slot i₀ i = (i ≤ slots) × (length slot ≡ slots) × (inUse source slot ≡ inUse source (drop i slot))
 
 abbrev μ-loop : tie.MeasureT-loop
-μ-loop source slot i₀ i = 64 - i
+μ-loop source slot i₀ i = slots - i
 
 loop-holds : tie.Need-loop-holds Inv-loop μ-loop
 loop-holds c = (search needs, search needs, refl)

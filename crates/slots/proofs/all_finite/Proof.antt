@@ -5,16 +5,17 @@ use native.Mathlib.Omega.{arith}
 use borrow.Author.Needs.{needs}
 use borrow.Author.Tests.{not-true, not-false}
 use lib.ListN.{length, drop}
+use Rattle.config.specs.Sizes.{slots}
 use Rattle.slots.specs.Slots.{allFinite}
 use Rattle.slots.proofs.Laws.{and-false, and-true, finite-from, finite-past}
 use Rattle.slots.proofs.all_finite.Statement.{statement}
 use Rattle.slots.proofs.all_finite.Tie as tie
 
 abbrev Inv-loop : tie.InvT-loop
-Inv-loop slot i₀ i = (i ≤ 64) × (length slot ≡ 64) × (allFinite slot ≡ allFinite (drop i slot))
+Inv-loop slot i₀ i = (i ≤ slots) × (length slot ≡ slots) × (allFinite slot ≡ allFinite (drop i slot))
 
 abbrev μ-loop : tie.MeasureT-loop
-μ-loop slot i₀ i = 64 - i
+μ-loop slot i₀ i = slots - i
 
 loop-holds : tie.Need-loop-holds Inv-loop μ-loop
 loop-holds c = (search needs, search needs, refl)

@@ -6,16 +6,17 @@ use borrow.Author.Needs.{needs}
 use lib.ListN.{length, getD}
 use Rattle.list.proofs.Filled.{Filled, filled-none, filled-more, filled-all}
 use Rattle.list.proofs.Elements.{getD-inside}
+use Rattle.config.specs.Sizes.{slots}
 use Rattle.slots.specs.Slots.{emptySlot, cleared}
 use Rattle.slots.proofs.Laws.{map-fill}
 use Rattle.slots.proofs.clear_all.Statement.{statement}
 use Rattle.slots.proofs.clear_all.Tie as tie
 
 abbrev Inv-loop : tie.InvT-loop
-Inv-loop target slot next₀ i₀ next i = (i ≤ 64) × (length slot ≡ 64) × Filled slot (λ k. cleared target (getD slot k emptySlot)) i next
+Inv-loop target slot next₀ i₀ next i = (i ≤ slots) × (length slot ≡ slots) × Filled slot (λ k. cleared target (getD slot k emptySlot)) i next
 
 abbrev μ-loop : tie.MeasureT-loop
-μ-loop target slot next₀ i₀ next i = 64 - i
+μ-loop target slot next₀ i₀ next i = slots - i
 
 loop-holds : tie.Need-loop-holds Inv-loop μ-loop
 loop-holds c = (search needs, search needs, filled-none _ _)

@@ -4,16 +4,17 @@ use Prim.Native.Nat.{_+_, _-_, _≤_}
 use native.Mathlib.Omega.{arith}
 use borrow.Author.Needs.{needs}
 use lib.ListN.{length, drop}
+use Rattle.config.specs.Sizes.{slots}
 use Rattle.slots.specs.Slots.{countAims}
 use Rattle.slots.proofs.Laws.{count-from, count-past}
 use Rattle.slots.proofs.count_aims.Statement.{statement}
 use Rattle.slots.proofs.count_aims.Tie as tie
 
 abbrev Inv-loop : tie.InvT-loop
-Inv-loop target slot count₀ i₀ count i = (i ≤ 64) × (length slot ≡ 64) × (count ≤ i) × (count + countAims target (drop i slot) ≡ countAims target slot)
+Inv-loop target slot count₀ i₀ count i = (i ≤ slots) × (length slot ≡ slots) × (count ≤ i) × (count + countAims target (drop i slot) ≡ countAims target slot)
 
 abbrev μ-loop : tie.MeasureT-loop
-μ-loop target slot count₀ i₀ count i = 64 - i
+μ-loop target slot count₀ i₀ count i = slots - i
 
 loop-holds : tie.Need-loop-holds Inv-loop μ-loop
 loop-holds c = (search needs, search needs, search needs, omega arith)

@@ -4,16 +4,17 @@ use Prim.Native.Nat.{_+_, _-_, _≤_}
 use native.Mathlib.Omega.{arith}
 use borrow.Author.Needs.{needs}
 use lib.ListN.{length, drop}
+use Rattle.config.specs.Sizes.{slots}
 use Rattle.slots.specs.Slots.{firstEmpty}
 use Rattle.slots.proofs.Laws.{more-from, empty-from, empty-past}
 use Rattle.slots.proofs.first_empty.Statement.{statement}
 use Rattle.slots.proofs.first_empty.Tie as tie
 
 abbrev Inv-loop : tie.InvT-loop
-Inv-loop slot i₀ i = (i ≤ 64) × (length slot ≡ 64) × (firstEmpty slot ≡ i + firstEmpty (drop i slot))
+Inv-loop slot i₀ i = (i ≤ slots) × (length slot ≡ slots) × (firstEmpty slot ≡ i + firstEmpty (drop i slot))
 
 abbrev μ-loop : tie.MeasureT-loop
-μ-loop slot i₀ i = 64 - i
+μ-loop slot i₀ i = slots - i
 
 loop-holds : tie.Need-loop-holds Inv-loop μ-loop
 loop-holds c = (search needs, search needs, omega arith)

@@ -4,6 +4,7 @@ use native.Mathlib.Omega.{arith}
 use borrow.Author.Needs.{needs}
 use lib.ListN.{length, length-map, List·getD-eq-default}
 use Rattle.list.proofs.Elements.{getD-inside}
+use Rattle.config.specs.Sizes.{slots}
 use Rattle.slots.specs.Slots.{emptySlot}
 use Rattle.slots.specs.Matrix.{slotOf}
 use Rattle.slots.proofs.slot_of.Statement.{statement}
@@ -19,7 +20,7 @@ returns : tie.Need-returns
 unfolding slotOf
 returns c =
     let a = c .before .before .args in
-    let long : length (a .t1 .slot) ≡ 64 = simp length-map at (c .before .before .good .0 .1 .1 .0 .1 .0 .1) in
+    let long : length (a .t1 .slot) ≡ slots = simp length-map at (c .before .before .good .0 .1 .1 .0 .1 .0 .1) in
     getD-inside (a .t1 .slot) (a .n) _ emptySlot (omega arith)
 
 empty-slot-requires : tie.Need-empty-slot-requires
@@ -29,7 +30,7 @@ returns-2 : tie.Need-returns-2
 unfolding slotOf
 returns-2 c =
     let a = c .before .before .args in
-    let long : length (a .t1 .slot) ≡ 64 = simp length-map at (c .before .before .good .0 .1 .1 .0 .1 .0 .1) in
+    let long : length (a .t1 .slot) ≡ slots = simp length-map at (c .before .before .good .0 .1 .1 .0 .1 .0 .1) in
     c .empty-slot .ensures ∙ sym (List·getD-eq-default (a .t1 .slot) emptySlot (omega arith))
 
 pub slot-of-spec : {M : Type 1} → statement M

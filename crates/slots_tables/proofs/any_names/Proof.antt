@@ -4,16 +4,17 @@ use Prim.Native.Nat.{_-_, _≤_}
 use native.Mathlib.Omega.{arith}
 use borrow.Author.Needs.{needs}
 use lib.ListN.{length, drop}
+use Rattle.config.specs.Sizes.{slots}
 use Rattle.slots_tables.specs.Tables.{anyNames}
 use Rattle.slots_tables.proofs.Laws.{or-true, or-false, names-from, names-past}
 use Rattle.slots_tables.proofs.any_names.Statement.{statement}
 use Rattle.slots_tables.proofs.any_names.Tie as tie
 
 abbrev Inv-loop : tie.InvT-loop
-Inv-loop slot i₀ i = (i ≤ 64) × (length slot ≡ 64) × (anyNames slot ≡ anyNames (drop i slot))
+Inv-loop slot i₀ i = (i ≤ slots) × (length slot ≡ slots) × (anyNames slot ≡ anyNames (drop i slot))
 
 abbrev μ-loop : tie.MeasureT-loop
-μ-loop slot i₀ i = 64 - i
+μ-loop slot i₀ i = slots - i
 
 loop-holds : tie.Need-loop-holds Inv-loop μ-loop
 loop-holds c = (search needs, search needs, refl)

@@ -5,16 +5,17 @@ use native.Mathlib.Omega.{arith}
 use borrow.Author.Needs.{needs}
 use borrow.Author.Tests.{not-true, not-false}
 use lib.ListN.{length, drop}
+use Rattle.config.specs.Sizes.{slots}
 use Rattle.slots_tables.specs.Tables.{slotsAllowed}
 use Rattle.slots_tables.proofs.Laws.{and-false, and-true, allowed-from, allowed-past}
 use Rattle.slots_tables.proofs.slots_allowed.Statement.{statement}
 use Rattle.slots_tables.proofs.slots_allowed.Tie as tie
 
 abbrev Inv-loop : tie.InvT-loop
-Inv-loop tables slot i₀ i = (i ≤ 64) × (length slot ≡ 64) × (slotsAllowed tables 0 slot ≡ slotsAllowed tables i (drop i slot))
+Inv-loop tables slot i₀ i = (i ≤ slots) × (length slot ≡ slots) × (slotsAllowed tables 0 slot ≡ slotsAllowed tables i (drop i slot))
 
 abbrev μ-loop : tie.MeasureT-loop
-μ-loop tables slot i₀ i = 64 - i
+μ-loop tables slot i₀ i = slots - i
 
 loop-holds : tie.Need-loop-holds Inv-loop μ-loop
 loop-holds c = (search needs, search needs, refl)
