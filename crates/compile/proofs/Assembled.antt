@@ -25,7 +25,7 @@ use Rattle.model.specs.Wiring.{verdictsFrom, verdicts, takenOf, leftOutFrom, ca
 use Rattle.model.specs.Feeds.{usedIn, usedDests, feederIn, feederOf, readerBy, readersOf, controls, planOrder}
 use Rattle.model.specs.Plans.{plansIn, routesOver, allRoutes}
 use Rattle.model.specs.Plans.{plansOf as plansList}
-use Rattle.model.proofs.Candidates.{candidates-64}
+use Rattle.model.proofs.Candidates.{candidates-most}
 use Rattle.model.proofs.Ordered.{plan-order-distinct}
 use Rattle.model.proofs.RouteCount.{into, into-bound, routes-length}
 use Rattle.compile_order.specs.declared.PlanOrder.{PlanOrder}
@@ -100,7 +100,7 @@ module _ (w : Wiring) where
           routes-length (w .config .«sample_rate») (w .sources) (w .dests) (w .matrix .slot) (readersOf w) (planOrder w) (planOrder w),
           into-bound (planOrder w) (readersOf w) (plan-order-distinct w),
           readers-many,
-          candidates-64 w e,
+          candidates-most w e,
         )
 
     routes-are : length (w .matrix .slot) ≡ slots → xs ≡ routesOf (allRoutes w)

@@ -15,7 +15,7 @@ use Rattle.list.specs.Rows.{inRow}
 use Rattle.list.proofs.Filled.{fill-below}
 use Rattle.feed.specs.Numbers.{upFrom}
 use Rattle.feed.specs.Order.{order}
-use Rattle.feed.specs.Marks.{marked, planOrder}
+use Rattle.feed.specs.Marks.{marked, planOrder, pairs}
 use Rattle.feed.specs.declared.Order.{Order}
 use Rattle.feed.proofs.Planned.{plan-places}
 use Rattle.feed.proofs.Placed.{order-length}
@@ -32,7 +32,7 @@ use Rattle.compile_order.proofs.Lists.{rated-all, numbers-added}
 
 -- the marks of all pairs
 abbrev allMarks : List Reader → List ℕ → List Bool
-allMarks rs l = fill (replicate 4096 false) (markAt rs l) 4096
+allMarks rs l = fill (replicate pairs false) (markAt rs l) pairs
 
 module _ (rs : List Reader) (l : List ℕ) (few : length l ≤ slots) where
   module _ (i j : ℕ) (h : i < length l) (k : j < length l) where
@@ -48,7 +48,7 @@ module _ (rs : List Reader) (l : List ℕ) (few : length l ≤ slots) where
 
     pub marked-is : marked (allMarks rs l) i j ≡ feedsOther rs (getD l i 0) (getD l j 0)
     marked-is =
-        fill-below (replicate 4096 false) (markAt rs l) 4096 (inRow slots i j) false (omega arith) (omega (arith, length-replicate 4096 false))
+        fill-below (replicate pairs false) (markAt rs l) pairs (inRow slots i j) false (omega arith) (omega (arith, length-replicate pairs false))
         ∙ mark-is
 
   pub order-marked : order (λ a b. anyReads a b rs) l ≡ map (λ i. getD l i 0) (order (marked (allMarks rs l)) (upFrom 0 (length l)))
@@ -110,7 +110,7 @@ module _ (us : List Used) (rs : List Reader) (few : length us ≤ slots) where
 
   -- the steps of `plan_order`, one after the other
   pub planned : (a : Numbers) (n : ℕ) (m : List Bool) (o : Order) (first more out : Numbers) → a ≡ numbersOf (ratedAs false us) → n ≡ min (a .count) slots
-      → m ≡ fill (replicate 4096 false) (markAt rs (numbersIn a)) 4096 → o ≡ planOrder m n
+      → m ≡ fill (replicate pairs false) (markAt rs (numbersIn a)) pairs → o ≡ planOrder m n
       → first ≡ numbersOf (map (λ i. getD (a .at) i 0) (take (o .count) (o .place))) → more ≡ numbersOf (ratedAs true us)
       → out ≡ numbersAdded first (numbersIn more) → _≡_ {A = PlanOrder} (record { control = n; order = out }) (planOrderIn us rs)
   planned a n m o first more out ea en em eo ef eb eu =

@@ -2,7 +2,7 @@
 use mathlib.Core.Path.{_≡_, refl}
 use mathlib.Core.Bool.{Bool, true, false, cond, not, _&&_}
 use mathlib.Core.List.{List, [], _∷_, _++_}
-use Prim.Native.Nat.{ℕ, _/_, _%_}
+use Prim.Native.Nat.{ℕ, _*_, _/_, _%_}
 use lib.Dec.{eqb, ltb}
 use lib.ListN.{length, getD}
 use Rattle.config.specs.Sizes.{slots}
@@ -72,8 +72,8 @@ the-control-ones = refl
 the-audio-ones : ratedAs true three ≡ 6 ∷ []
 the-audio-ones = refl
 
--- 7, at place 1, is read by 5, at place 0: mark 64; not the other way round
-marked-pair : markAt two (5 ∷ 7 ∷ []) 64 ≡ true
+-- 7, at place 1, is read by 5, at place 0: the first mark of row 1; not the other way round
+marked-pair : markAt two (5 ∷ 7 ∷ []) slots ≡ true
 unfolding markAt
 marked-pair = refl
 
@@ -82,7 +82,7 @@ unfolding markAt
 unmarked-pair = refl
 
 -- there is no place 2
-no-such-pair : markAt two (5 ∷ 7 ∷ []) 128 ≡ false
+no-such-pair : markAt two (5 ∷ 7 ∷ []) (2 * slots) ≡ false
 unfolding markAt
 no-such-pair = refl
 

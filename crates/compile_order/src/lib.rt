@@ -6,6 +6,7 @@ ghost use Prim.Native.Nat.{_<_};
 ghost use lib.Dec.{eqb};
 ghost use lib.ListN.{getD, take, replicate};
 ghost use Rattle.list.specs.Fill.{fill};
+ghost use Rattle.feed.specs.Marks.{pairs};
 ghost use Rattle.state_filled.specs.Filled.{usedDestsIn, readersIn, numbersOf, numbersIn};
 ghost use Rattle.model.specs.Feeds.{isIt, isAmong, anyReads};
 ghost use Rattle.compile_order.specs.Marks.{isRated, ratedAs, ratedAdded, feedsOther, markAt, numbersAdded, planOrderIn};
@@ -131,7 +132,7 @@ fn feeds_other(readers: Readers, a: u16, b: u16) -> bool
 
 // the mark of pair p of places
 fn mark(readers: Readers, control: Numbers, p: usize) -> bool
-    requires { ⌜ p < 4096 ⌝ }
+    requires { ⌜ p < pairs ⌝ }
     ensures { λ r. ⌜ r ≡ markAt (readersIn readers) (numbersIn control) p ⌝ }
 {
     let n = state_filled::held(control.count);
@@ -148,7 +149,7 @@ fn mark(readers: Readers, control: Numbers, p: usize) -> bool
 
 // a mark for each pair of places
 fn marks(readers: Readers, control: Numbers) -> [bool; PAIRS]
-    ensures { λ r. ⌜ r ≡ fill (replicate 4096 false) (markAt (readersIn readers) (numbersIn control)) 4096 ⌝ }
+    ensures { λ r. ⌜ r ≡ fill (replicate pairs false) (markAt (readersIn readers) (numbersIn control)) pairs ⌝ }
 {
     let mut out = [false; PAIRS];
     let mut p = 0;

@@ -9,6 +9,7 @@ use lib.Dec.{ltb}
 use lib.ListN.{getD}
 use lib.Ieee.{Float, nan}
 use Rattle.refusal.specs.Judge.{Row, _when_, judged}
+use Rattle.config.specs.Sizes.{mostVoices}
 use Rattle.state.specs.declared.State.{State}
 use Rattle.state.specs.declared.Reading.the-variants as R
 use Rattle.model.specs.Counts.{voiceCount, frameCount, planAt}
@@ -24,7 +25,7 @@ use Rattle.engine_reads.proofs.Spots.{audio-is, control-is, audio-numbe
 pub same-code : {code : ℕ} (r : Row) {a b : Bool} → code ≡ judged (r ∷ 14 when a ∷ []) → a ≡ b → code ≡ judged (r ∷ 14 when b ∷ [])
 same-code r e q = e ∙ ap (λ (x : Bool). judged (r ∷ 14 when x ∷ [])) q
 
-pub voice-most : (st : State) (v : ℕ) (b : Bool) {code : ℕ} → code ≡ judged (voiceRow st v ∷ 14 when b ∷ []) → code ≡ 0 → v ≤ 64
+pub voice-most : (st : State) (v : ℕ) (b : Bool) {code : ℕ} → code ≡ judged (voiceRow st v ∷ 14 when b ∷ []) → code ≡ 0 → v ≤ mostVoices
 voice-most st v b e z = omega (arith, accepted (voiceCount st) v b (sym e ∙ z))
 
 -- ---- at

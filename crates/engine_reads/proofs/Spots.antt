@@ -7,6 +7,7 @@ use native.Mathlib.Omega.{arith}
 use lib.Dec.{ltb, eqb}
 use lib.ListN.{length, getD, take, length-take}
 use lib.Ieee.{Float, nan}
+use Rattle.config.specs.Sizes.{slots, mostVoices, mostFrames, mostStride, mostChunks}
 use Rattle.state_filled.specs.Filled.{noPlan}
 use Rattle.state.specs.declared.Plan.{Plan}
 use Rattle.state.specs.declared.State.{State}
@@ -14,7 +15,7 @@ use Rattle.layout.proofs.Bounds.{product-bound, stride-bound}
 use Rattle.model.specs.Counts.{frameCount, strideOf, chunksMost, planTotal, planAt, at}
 use Rattle.model.specs.Layout.{planWidth, planSize, audioSize}
 use Rattle.model.specs.Outputs.{planOf, planPlace, isAudioPlan, isControlPlan, widthOf, laneOf, audioStart, fromStart, toStart, audioNumber, toNumber}
-use Rattle.engine_reads.specs.Spot.{spotOf, Bounded}
+use Rattle.engine_reads.specs.Spot.{spotOf, mostStart, Bounded}
 use Rattle.engine_reads.specs.declared.Spot.{Spot}
 
 -- ---- places
@@ -27,7 +28,7 @@ plan-most : (d : ℕ) (l : List Plan) → planOf d l ≤ length l
 plan-most d [] = omega arith
 plan-most d (p ∷ ps) = cond-most (eqb (p .dest) d) (planOf d ps) (length ps) (plan-most d ps)
 
-pub place-most : (st : State) (d : ℕ) → planPlace st d ≤ 64
+pub place-most : (st : State) (d : ℕ) → planPlace st d ≤ slots
 place-most st d =
     let n = planTotal (st .program) in
     omega (arith, plan-most d (take n (st .program .plan)), length-take n (st .program .plan))
@@ -36,11 +37,11 @@ pub width-least : (s : ℕ) (v : Bool) → 1 ≤ s → 1 ≤ planWidth s v
 width-least s true h = h
 width-least s false h = omega arith
 
-pub width-most : (s : ℕ) (v : Bool) → s ≤ 64 → planWidth s v ≤ 64
+pub width-most : (s : ℕ) (v : Bool) → s ≤ mostStride → planWidth s v ≤ mostStride
 width-most s true h = h
 width-most s false h = omega arith
 
-pub lane-most : (b : Bool) (v : ℕ) → v ≤ 64 → cond b v 0 ≤ 64
+pub lane-most : (b : Bool) (v : ℕ) → v ≤ mostVoices → cond b v 0 ≤ mostVoices
 lane-most true v h = h
 lane-most false v h = omega arith
 
@@ -60,7 +61,7 @@ module _ (st : State) (d : ℕ) where
   unfolding spotOf planAt
   spot-is en ei es ec ef ev ea = rw (ea, ev, ei, en, es, ec, ef)
 
-  stride-most : strideOf st ≤ 64
+  stride-most : strideOf st ≤ mostStride
   stride-most = stride-bound (st .config .voices)
 
   -- ---- what a spot is
@@ -71,15 +72,16 @@ module _ (st : State) (d : ℕ) where
       let i = planPlace st d in
       let s = strideOf st in
       let n = chunksMost st in
-      let hi : i ≤ 64 = place-most st d in
-      let hs : s ≤ 64 = stride-most in
-      let hn : n ≤ 130 = omega arith in
-      let hf : frameCount st ≤ 4096 = omega arith in
-      let size : planSize s n ≤ 17024 = omega (arith, product-bound s (2 * n + 6) 64 266 hs (omega arith)) in
-      let plans : i * planSize s n ≤ 1089536 = omega (arith, product-bound i (planSize s n) 64 17024 hi size) in
-      let front : (2 + n) * s ≤ 8448 = omega (arith, product-bound (2 + n) s 132 64 (omega arith) hs) in
-      let block : audioSize s (frameCount st) ≤ 262144 = omega (arith, product-bound s (frameCount st) 64 4096 hs hf) in
-      let blocks : i * audioSize s (frameCount st) ≤ 16777216 = omega (arith, product-bound i (audioSize s (frameCount st)) 64 262144 hi block) in
+      let most = planSize mostStride (mostChunks mostFrames) in
+      let hi : i ≤ slots = place-most st d in
+      let hs : s ≤ mostStride = stride-most in
+      let hn : n ≤ mostChunks mostFrames = omega arith in
+      let hf : frameCount st ≤ mostFrames = omega arith in
+      let size : planSize s n ≤ most = omega (arith, product-bound s (2 * n + 6) mostStride (2 * mostChunks mostFrames + 6) hs (omega arith)) in
+      let plans : i * planSize s n ≤ slots * most = omega (arith, product-bound i (planSize s n) slots most hi size) in
+      let front : (2 + n) * s ≤ (2 + mostChunks mostFrames) * mostStride = omega (arith, product-bound (2 + n) s (2 + mostChunks mostFrames) mostStride (omega arith) hs) in
+      let block : audioSize s (frameCount st) ≤ audioSize mostStride mostFrames = omega (arith, product-bound s (frameCount st) mostStride mostFrames hs hf) in
+      let blocks : i * audioSize s (frameCount st) ≤ mostStart = omega (arith, product-bound i (audioSize s (frameCount st)) slots (audioSize mostStride mostFrames) hi block) in
       record {
         width-least = width-least s (planAt st i .voice) (omega arith);
         width-most = width-most s (planAt st i .voice) hs;

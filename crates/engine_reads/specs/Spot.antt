@@ -1,6 +1,7 @@
 -- Where the numbers of a destination stand, as it is read (model's specs/Outputs has what is read there). Definitions only.
 use mathlib.Core.Bool.{cond}
 use Prim.Native.Nat.{ℕ, _+_, _*_, _≤_}
+use Rattle.config.specs.Sizes.{slots, mostFrames, mostStride}
 use Rattle.state.specs.declared.State.{State}
 use Rattle.state.specs.declared.Output.{Output}
 use Rattle.state.specs.declared.Output.the-variants as O
@@ -25,10 +26,14 @@ spotOf st d =
 abbrev pub shapeBy : Spot → ℕ → Output
 shapeBy s n = cond (s .audio) (O.Audio (s .width)) (cond (s .control) (O.Control (s .width) n) O.Unmodulated)
 
+-- the furthest that a plan's numbers start: where the audio rows of all plans end
+abbrev pub mostStart : ℕ
+mostStart = slots * audioSize mostStride mostFrames
+
 -- its numbers are small
 pub record Bounded (s : Spot) : Type 0 where
   pub width-least : 1 ≤ s .width
-  pub width-most : s .width ≤ 64
-  pub from-most : s .from ≤ 33554432
-  pub to-most : s .to ≤ 33554432
-  pub rows-most : s .rows ≤ 33554432
+  pub width-most : s .width ≤ mostStride
+  pub from-most : s .from ≤ mostStart
+  pub to-most : s .to ≤ mostStart
+  pub rows-most : s .rows ≤ mostStart

@@ -6,7 +6,7 @@ ghost use Prim.Native.Nat.{_+_, _-_, _*_, _≤_, _<_, min};
 ghost use lib.Dec.{leb, ltb};
 ghost use lib.ListN.{length, getD, take};
 ghost use lib.Ieee.{nan};
-ghost use Rattle.config.specs.Sizes.{slots, period, mostVoices, mostFrames, mostDestinations};
+ghost use Rattle.config.specs.Sizes.{slots, period, mostVoices, mostFrames, mostDestinations, mostStride, mostChunks};
 ghost use Rattle.feed.specs.Numbers.{upFrom};
 ghost use Rattle.refusal.specs.Judge.{judged, _when_};
 ghost use Rattle.list.specs.Fill.{fill};
@@ -15,7 +15,7 @@ ghost use Rattle.state_filled.specs.Filled.{noPlan};
 ghost use Rattle.model.specs.Layout.{planWidth, planSize, audioSize};
 ghost use Rattle.model.specs.Process.{valuesOf, audioNeedOf};
 ghost use Rattle.model.specs.Outputs.{planOf, outputOf, audioPart, framePart, fromPart, toPart, chunkCount, chunkAt, audioAt, controlValue, latestOf, rampAt, rampLength, rampOf, latestRow, latestRows, latestAll};
-ghost use Rattle.engine_reads.specs.Spot.{spotOf, shapeBy, Bounded};
+ghost use Rattle.engine_reads.specs.Spot.{spotOf, shapeBy, mostStart, Bounded};
 ghost use Rattle.engine_reads.specs.Ramp.{rampNumber};
 ghost use Rattle.engine_reads.specs.Latest.{lastOf, laneNumber, latestBy};
 use config::DESTINATIONS;
@@ -142,15 +142,15 @@ fn width(stride: usize, voice: bool) -> usize
 
 // the numbers of a plan in the values
 fn plan_size(stride: usize, chunks: usize) -> usize
-    requires { ⌜ (stride ≤ 64) × (chunks ≤ 130) ⌝ }
-    ensures { λ r. ⌜ (r ≡ planSize stride chunks) × (r ≤ 17024) ⌝ }
+    requires { ⌜ (stride ≤ mostStride) × (chunks ≤ mostChunks mostFrames) ⌝ }
+    ensures { λ r. ⌜ (r ≡ planSize stride chunks) × (r ≤ planSize mostStride (mostChunks mostFrames)) ⌝ }
 {
     stride * (2 * chunks + 6)
 }
 
 // where the "from" of its chunks start
 fn from_start(i: usize, stride: usize, chunks: usize) -> usize
-    requires { ⌜ (i ≤ 64) × (stride ≤ 64) × (chunks ≤ 130) ⌝ }
+    requires { ⌜ (i ≤ slots) × (stride ≤ mostStride) × (chunks ≤ mostChunks mostFrames) ⌝ }
     ensures { λ r. ⌜ r ≡ i * planSize stride chunks + 2 * stride ⌝ }
 {
     i * plan_size(stride, chunks) + 2 * stride
@@ -158,7 +158,7 @@ fn from_start(i: usize, stride: usize, chunks: usize) -> usize
 
 // where the "to" of its chunks start
 fn to_start(i: usize, stride: usize, chunks: usize) -> usize
-    requires { ⌜ (i ≤ 64) × (stride ≤ 64) × (chunks ≤ 130) ⌝ }
+    requires { ⌜ (i ≤ slots) × (stride ≤ mostStride) × (chunks ≤ mostChunks mostFrames) ⌝ }
     ensures { λ r. ⌜ r ≡ i * planSize stride chunks + (2 + chunks) * stride ⌝ }
 {
     i * plan_size(stride, chunks) + (2 + chunks) * stride
@@ -166,7 +166,7 @@ fn to_start(i: usize, stride: usize, chunks: usize) -> usize
 
 // where its audio rows start
 fn rows_start(i: usize, stride: usize, frames: usize) -> usize
-    requires { ⌜ (i ≤ 64) × (stride ≤ 64) × (frames ≤ 4096) ⌝ }
+    requires { ⌜ (i ≤ slots) × (stride ≤ mostStride) × (frames ≤ mostFrames) ⌝ }
     ensures { λ r. ⌜ r ≡ i * audioSize stride frames ⌝ }
 {
     i * (stride * frames)
@@ -231,7 +231,7 @@ fn lane(per_voice: bool, voice: usize) -> usize
 
 // the number of row k, rows of that width from a on, in that lane; NaN past the memory
 fn number_at(mem: &[f32], a: usize, width: usize, k: usize, lane: usize) -> f32
-    requires { ⌜ (a ≤ 33554432) × (1 ≤ width) × (lane ≤ 64) ⌝ }
+    requires { ⌜ (a ≤ mostStart) × (1 ≤ width) × (lane ≤ mostVoices) ⌝ }
     ensures { λ r. ⌜ r ≡ getD (now (mem .entry)) (a + k * width + lane) nan ⌝ }
 {
     let none = state_registry::not_a_number();
@@ -339,7 +339,7 @@ fn last_frame(block: Block) -> usize
 
 // the number of row k of a destination, its rows from a on, in a voice's lane
 fn number_of(mem: &[f32], a: usize, spot: Spot, k: usize, voice: usize) -> f32
-    requires { ⌜ (a ≤ 33554432) × (1 ≤ spot .width) × (voice ≤ 64) ⌝ }
+    requires { ⌜ (a ≤ mostStart) × (1 ≤ spot .width) × (voice ≤ mostVoices) ⌝ }
     ensures { λ r. ⌜ r ≡ getD (now (mem .entry)) (a + k * spot .width + cond (spot .voice) voice 0) nan ⌝ }
 {
     let lane = lane(spot.voice, voice);
@@ -443,7 +443,7 @@ pub fn audio_part<'a>(state: State, audio: &'a [f32], dest: usize, code: &mut u8
 
 // where row k starts, rows of that width from a on
 fn row_start(a: usize, width: usize, k: usize) -> usize
-    requires { ⌜ (a ≤ 33554432) × (width ≤ 64) × (k ≤ 4096) ⌝ }
+    requires { ⌜ (a ≤ mostStart) × (width ≤ mostStride) × (k ≤ mostFrames) ⌝ }
     ensures { λ r. ⌜ r ≡ a + k * width ⌝ }
 {
     a + k * width
@@ -519,7 +519,7 @@ fn ramp_at(from: f32, to: f32, j: usize) -> f32
 
 // t samples after a period's edge, at or before the block's first frame
 fn ramp_number(values: &[f32], spot: Spot, voice: usize, t: usize) -> f32
-    requires { ⌜ Bounded spot × (voice ≤ 64) ⌝ }
+    requires { ⌜ Bounded spot × (voice ≤ mostVoices) ⌝ }
     ensures { λ r. ⌜ r ≡ rampNumber (now (values .entry)) spot voice t ⌝ }
 {
     let i = t / PERIOD;
@@ -537,7 +537,7 @@ fn write_ramp(
     frames: usize,
     out: &mut [f32],
 )
-    requires { ⌜ Bounded spot × (voice ≤ 64) × (phase < period) × (frames ≤ length (now out)) ⌝ }
+    requires { ⌜ Bounded spot × (voice ≤ mostVoices) × (phase < period) × (frames ≤ length (now out)) ⌝ }
     ensures { λ _. ⌜ now (out .exit) ≡ fill (now (out .entry)) (λ k. rampNumber (now (values .entry)) spot voice (phase + k)) frames ⌝ }
 {
     let mut k = 0usize;
@@ -643,7 +643,7 @@ fn lane_number(
     voices: usize,
     v: usize,
 ) -> f32
-    requires { ⌜ (a ≤ 33554432) × (1 ≤ spot .width) × (voices ≤ mostVoices) ⌝ }
+    requires { ⌜ (a ≤ mostStart) × (1 ≤ spot .width) × (voices ≤ mostVoices) ⌝ }
     ensures { λ r. ⌜ r ≡ laneNumber (now (mem .entry)) a spot k active voices v ⌝ }
 {
     if is_on(active, voices, v) {
@@ -662,7 +662,7 @@ fn write_lanes(
     voices: usize,
     out: &mut [f32],
 )
-    requires { ⌜ (a ≤ 33554432) × (1 ≤ spot .width) × (voices ≤ mostVoices) ⌝ }
+    requires { ⌜ (a ≤ mostStart) × (1 ≤ spot .width) × (voices ≤ mostVoices) ⌝ }
     ensures { λ _. ⌜ now (out .exit) ≡ fill (now (out .entry)) (laneNumber (now (mem .entry)) a spot k active voices) (length (now (out .entry))) ⌝ }
 {
     let mut v = 0usize;

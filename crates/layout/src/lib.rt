@@ -1,7 +1,7 @@
 // How much memory a program needs (docs/CALLS.md, Memories; document 01, row 14). The definitions are in model's specs/Need; counts above their limits count as these.
 ghost use mathlib.Core.Path.{_≡_};
 ghost use Prim.Native.Nat.{_≤_, min};
-ghost use Rattle.config.specs.Sizes.{slots, mostVoices, mostFrames};
+ghost use Rattle.config.specs.Sizes.{slots, mostVoices, mostFrames, mostChunks};
 ghost use Rattle.model.specs.Need.{valuesRows, valuesNeed, audioNeed};
 use config::FRAMES;
 
@@ -19,8 +19,8 @@ pub fn values(voices: usize, frames: usize, plans: usize, routes: usize) -> usiz
 
 // rows of a lane stride in them
 fn rows(chunks: usize, plans: usize, routes: usize) -> usize
-    requires { ⌜ (chunks ≤ 130) × (plans ≤ slots) × (routes ≤ slots) ⌝ }
-    ensures { λ r. ⌜ (r ≡ valuesRows chunks plans routes) × (r ≤ 17536) ⌝ }
+    requires { ⌜ (chunks ≤ mostChunks mostFrames) × (plans ≤ slots) × (routes ≤ slots) ⌝ }
+    ensures { λ r. ⌜ (r ≡ valuesRows chunks plans routes) × (r ≤ valuesRows (mostChunks mostFrames) slots slots) ⌝ }
 {
     plans * (2 * chunks + 6) + 8 * routes
 }

@@ -180,20 +180,20 @@ module _ (ss : Sources) (ds : Destinations) where
     pub named-known : (d : ℕ) → named (takenOf (verdictsFrom ss ds n l)) d ≡ true → d < destCount ds
     named-known = named-in n (n + length l) (takenOf (verdictsFrom ss ds n l)) (each-known n (n + length l) l refl)
 
--- ---- of the matrix's 64 slots
+-- ---- of the matrix's slots
 
 module _ (w : Wiring) (e : length (w .matrix .slot) ≡ slots) where
-  pub verdicts-64 : length (verdicts w) ≡ slots
+  pub verdicts-slots : length (verdicts w) ≡ slots
   unfolding verdicts
-  verdicts-64 = verdicts-length (w .sources) (w .dests) 0 (w .matrix .slot) ∙ e
+  verdicts-slots = verdicts-length (w .sources) (w .dests) 0 (w .matrix .slot) ∙ e
 
-  pub candidates-64 : length (candidates w) ≤ slots
+  pub candidates-most : length (candidates w) ≤ slots
   unfolding candidates
-  candidates-64 = omega (arith, taken-length (verdicts w), verdicts-64)
+  candidates-most = omega (arith, taken-length (verdicts w), verdicts-slots)
 
-  pub skipped-64 : length (skippedOf w) ≤ slots
+  pub skipped-most : length (skippedOf w) ≤ slots
   unfolding skippedOf
-  skipped-64 = omega (arith, leftOut-length 0 (verdicts w), verdicts-64)
+  skipped-most = omega (arith, leftOut-length 0 (verdicts w), verdicts-slots)
 
   pub candidate-known : (i : ℕ) (d : Candidate) → i < length (candidates w) → Known (w .sources) (w .dests) 0 slots (getD (candidates w) i d)
   unfolding candidates verdicts

@@ -30,10 +30,10 @@ use Rattle.model.specs.Counts.{planTotal, controlTotal, routeTotal, plan
 use Rattle.model.specs.Outputs.{planOf, planPlace}
 use Rattle.model.specs.Rule.{slotOf, candidatesInto, slotsInto, noCandidate, slotInto}
 use Rattle.model.specs.Model.{routeOf, routePlace}
-use Rattle.model.proofs.Candidates.{candidates-64, candidate-named}
+use Rattle.model.proofs.Candidates.{candidates-most, candidate-named}
 use Rattle.model.proofs.InUse.{some-named, in-use-means}
 use Rattle.model.proofs.Ordered.{plan-order-in, plan-order-distinct}
-use Rattle.model.proofs.ProgramLayout.{plans-64}
+use Rattle.model.proofs.ProgramLayout.{plans-most}
 use Rattle.model.proofs.RouteCount.{into, into-all, routes-length}
 use Rattle.model.proofs.PlanLists.{into-dest, all-in, intoFirst, first-apart, first-inside, planFrom, plans-length, plans-at, plans-place}
 use Rattle.model.proofs.PlanLists.{routeFor, into-length, routes-at, routeSlots, route-index, route-slots-distinct, slots-distinct}
@@ -126,7 +126,7 @@ module _ (w : Wiring) (slotted : length (w .matrix .slot) ≡ slots) (st : State
 
   pub plan-total : planTotal (st .program) ≡ length (planOrder w)
   unfolding compiled
-  plan-total = ap planTotal is ∙ min-eq-left (plans-64 w slotted)
+  plan-total = ap planTotal is ∙ min-eq-left (plans-most w slotted)
 
   pub control-total : controlTotal (st .program) ≡ length (controls w)
   unfolding compiled
@@ -136,7 +136,7 @@ module _ (w : Wiring) (slotted : length (w .matrix .slot) ≡ slots) (st : State
 
   pub route-total : routeTotal (st .program) ≡ length (candidates w)
   unfolding compiled
-  route-total = ap routeTotal is ∙ min-eq-left (candidates-64 w slotted)
+  route-total = ap routeTotal is ∙ min-eq-left (candidates-most w slotted)
 
   -- ---- plans
 

@@ -16,10 +16,10 @@ use Rattle.model.specs.Wiring.{candidates}
 use Rattle.model.specs.Feeds.{planOrder}
 use Rattle.model.specs.Plans.{compiled}
 use Rattle.model.specs.Compile.{programValues, programAudio}
-use Rattle.model.proofs.Candidates.{candidates-64}
+use Rattle.model.proofs.Candidates.{candidates-most}
 use Rattle.model.proofs.InUse.{in-use-most}
 use Rattle.model.proofs.Ordered.{plan-order-length}
-use Rattle.model.proofs.NeedBound.{need-bound}
+use Rattle.model.proofs.NeedBound.{need-bound-routed}
 use Rattle.model.proofs.LayoutHolds.{parts-inside, parts-apart}
 
 pub stride-least : (v : ℕ) → 1 ≤ laneStride v
@@ -41,14 +41,15 @@ module _ (p : Program) where
 pub plans-routes : (w : Wiring) → length (planOrder w) ≤ length (candidates w)
 plans-routes w = omega (arith, plan-order-length w, in-use-most w)
 
-pub plans-64 : (w : Wiring) → length (w .matrix .slot) ≡ slots → length (planOrder w) ≤ slots
-plans-64 w e = omega (arith, plans-routes w, candidates-64 w e)
+pub plans-most : (w : Wiring) → length (w .matrix .slot) ≡ slots → length (planOrder w) ≤ slots
+plans-most w e = omega (arith, plans-routes w, candidates-most w e)
 
--- THE NEEDS OF A COMPILED PROGRAM ARE WITHIN THE BOUND, the matrix having its 64 slots and the configuration being accepted
+-- THE NEEDS OF A COMPILED PROGRAM ARE WITHIN THE BOUND, the matrix having its slots and the configuration being accepted
 pub compiled-bound : (w : Wiring) → length (w .matrix .slot) ≡ slots
     → configCode (w .config .«sample_rate») (w .config .«max_frames») (w .config .voices) ≡ 0
     → programValues (compiled w) + programAudio (compiled w) ≤ needBound (w .config .voices) (w .config .«max_frames») (compiled w .plans) (compiled w .routes)
 unfolding compiled
 compiled-bound w e h =
     let a = accepted (w .config .«sample_rate») (w .config .«max_frames») (w .config .voices) h in
-    need-bound (w .config .voices) (w .config .«max_frames») (compiled w .plans) (compiled w .routes) (a .frames-most) (plans-64 w e)
+    let few : length (planOrder w) ≤ slots = plans-most w e in
+    need-bound-routed (w .config .voices) (w .config .«max_frames») (compiled w .plans) (compiled w .routes) (a .frames-most) (omega arith) (plans-routes w)

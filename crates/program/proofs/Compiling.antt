@@ -24,8 +24,8 @@ use Rattle.model.specs.Wiring.{candidates}
 use Rattle.model.specs.Feeds.{planOrder}
 use Rattle.model.specs.Plans.{compiled}
 use Rattle.model.specs.Compile.{programValues, programAudio, emptyOf, Memories, numbersAllowed, tablesShort, memoryShort, compileRows, zeroed, madeIn, madeBy, compile, Made}
-use Rattle.model.proofs.Candidates.{candidates-64}
-use Rattle.model.proofs.ProgramLayout.{plans-64}
+use Rattle.model.proofs.Candidates.{candidates-most}
+use Rattle.model.proofs.ProgramLayout.{plans-most}
 use Rattle.program.specs.Steps.{earlyCode, heldValues, heldAudio, copied}
 
 -- a refusal with its number
@@ -83,7 +83,7 @@ module _ (w : Wiring) (tables : List Float) (l : Memories) where
 
 -- ---- needs: no count of a compiled program is above its limit
 
-module _ (w : Wiring) (tables : List Float) (slots-64 : length (w .matrix .slot) ≡ slots) (e : earlyCode (w .matrix) tables (w .config) ≡ 0) where
+module _ (w : Wiring) (tables : List Float) (slotted : length (w .matrix .slot) ≡ slots) (e : earlyCode (w .matrix) tables (w .config) ≡ 0) where
   allowed : Accepted (w .config .«sample_rate») (w .config .«max_frames») (w .config .voices)
   unfolding earlyCode
   allowed = accepted _ _ _ (first-none (judged (6 when not (numbersAllowed (w .matrix) tables) ∷ [])) _ e .1)
@@ -95,10 +95,10 @@ module _ (w : Wiring) (tables : List Float) (slots-64 : length (w .matrix .slot)
   frames-held = omega (arith, allowed .frames-most)
 
   plans-held : min (length (planOrder w)) slots ≡ length (planOrder w)
-  plans-held = omega (arith, plans-64 w slots-64)
+  plans-held = omega (arith, plans-most w slotted)
 
   routes-held : min (length (candidates w)) slots ≡ length (candidates w)
-  routes-held = omega (arith, candidates-64 w slots-64)
+  routes-held = omega (arith, candidates-most w slotted)
 
   pub values-held : heldValues (compiled w) ≡ programValues (compiled w)
   unfolding heldValues compiled
@@ -126,7 +126,7 @@ copied-made named to from h = go named (ltb (length from) tablesNeed) (ltb (leng
 
 -- ---- the steps of the code
 
-module _ (w : Wiring) (tables : List Float) (l : Memories) (slots-64 : length (w .matrix .slot) ≡ slots) (e : earlyCode (w .matrix) tables (w .config) ≡ 0) (p : Program) (is : p ≡ compiled w) where
+module _ (w : Wiring) (tables : List Float) (l : Memories) (slotted : length (w .matrix .slot) ≡ slots) (e : earlyCode (w .matrix) tables (w .config) ≡ 0) (p : Program) (is : p ≡ compiled w) where
   -- what the code asks of the tables, and of the program's own memories
   abbrev pub tables-test : Bool
   tables-test = p .tabled && (ltb (length tables) tablesNeed || ltb (length (l .tables)) tablesNeed)
@@ -141,8 +141,8 @@ module _ (w : Wiring) (tables : List Float) (l : Memories) (slots-64 : length (w
   memory-are : memory-test ≡ memoryShort (compiled w) l
   memory-are =
       ap (λ (q : Program). ltb (length (l .values)) (heldValues q) || ltb (length (l .audio)) (heldAudio q)) is
-      ∙ ap (λ (n : ℕ). ltb (length (l .values)) n || ltb (length (l .audio)) (heldAudio (compiled w))) (values-held w tables slots-64 e)
-      ∙ ap (λ (n : ℕ). ltb (length (l .values)) (programValues (compiled w)) || ltb (length (l .audio)) n) (audio-held w tables slots-64 e)
+      ∙ ap (λ (n : ℕ). ltb (length (l .values)) n || ltb (length (l .audio)) (heldAudio (compiled w))) (values-held w tables slotted e)
+      ∙ ap (λ (n : ℕ). ltb (length (l .values)) (programValues (compiled w)) || ltb (length (l .audio)) n) (audio-held w tables slotted e)
 
   pub refused-by-tables : tables-test ≡ true → compile w tables l ≡ record { answer = refusal 14; lent = l }
   refused-by-tables t = compile-short w tables l e (simp (sym tables-are ∙ t))
@@ -163,10 +163,10 @@ module _ (w : Wiring) (tables : List Float) (l : Memories) (slots-64 : length (w
   named-are = ap (λ (q : Program). q .tabled) is
 
   values-need-is : heldValues p ≡ programValues (compiled w)
-  values-need-is = ap heldValues is ∙ values-held w tables slots-64 e
+  values-need-is = ap heldValues is ∙ values-held w tables slotted e
 
   audio-need-is : heldAudio p ≡ programAudio (compiled w)
-  audio-need-is = ap heldAudio is ∙ audio-held w tables slots-64 e
+  audio-need-is = ap heldAudio is ∙ audio-held w tables slotted e
 
   memories-are : tables-test ≡ false → made-memories ≡ madeIn w tables l
   memories-are t =

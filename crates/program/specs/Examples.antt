@@ -2,10 +2,11 @@
 use mathlib.Core.Path.{_≡_, refl}
 use mathlib.Core.Bool.{Bool, true, false}
 use mathlib.Core.List.{List, [], _∷_, _++_}
-use Prim.Native.Nat.{ℕ}
+use Prim.Native.Nat.{ℕ, _+_, _-_, _*_}
 use lib.IntN.{pos}
 use lib.ListN.{replicate}
 use lib.Ieee.{Float, nan, fin, le}
+use Rattle.config.specs.Sizes.{slots}
 use Rattle.config.specs.declared.Config.{Config}
 use Rattle.feed.specs.Order.{order}
 use Rattle.refusal.specs.Judge.{judged}
@@ -13,7 +14,7 @@ use Rattle.list.specs.Padded.{padded}
 use Rattle.list.specs.Part.{part, onPart}
 use Rattle.list.specs.Rows.{rowAt}
 use Rattle.number.specs.Number.{zero32, one32, finite}
-use Rattle.curve_table.specs.Table.{allowed, allAllowed}
+use Rattle.curve_table.specs.Table.{points, allowed, allAllowed}
 use Rattle.curve_table.specs.Curve.{secondsFinite}
 use Rattle.state.specs.declared.NoteCurve.the-variants as N
 use Rattle.state.specs.declared.Base.the-variants as B
@@ -24,7 +25,7 @@ use Rattle.state.specs.declared.Program.{Program}
 use Rattle.state.specs.declared.Wiring.{Wiring}
 use Rattle.slots.specs.Slots.{emptySlot, numbersFinite, allFinite, withAmount}
 use Rattle.slots.specs.Matrix.{newMatrix, withSlots, withSlot, withVelocity}
-use Rattle.slots_tables.specs.Tables.{slotNames, anyNames, namesTable, placeAllowed, slotAllowed, slotsAllowed, namedAllowed}
+use Rattle.slots_tables.specs.Tables.{velocityPlace, slotNames, anyNames, namesTable, placeAllowed, slotAllowed, slotsAllowed, namedAllowed}
 use Rattle.model.specs.Wiring.{verdict, verdictsFrom, verdicts, candidates, skippedOf}
 use Rattle.model.specs.Feeds.{inUse, controls, audios, reads, readersOf, isAudio, planOrder}
 use Rattle.model.specs.Plans.{plansOf, allRoutes, compiled}
@@ -51,7 +52,7 @@ some =
       dests = 8;
       plans = 2;
       control = 1;
-      routes = 65;
+      routes = slots + 1;
       plan = planOf 7 false ∷ planOf 5 true ∷ planOf 6 true ∷ [];
       route = [];
       gains = record { amount = []; output = [] };
@@ -64,11 +65,11 @@ some =
       skipped = record { slot = 9; reason = E.UnknownAux } ∷ [];
     }
 
-counts : (routeCount some ≡ 64) × (planCount some ≡ 2) × (skipCount some ≡ 1) × (configOf some ≡ sized)
+counts : (routeCount some ≡ slots) × (planCount some ≡ 2) × (skipCount some ≡ 1) × (configOf some ≡ sized)
 unfolding some routeCount planCount skipCount configOf
 counts = (refl, refl, refl, refl)
 
-plans : (planAt some 1 ≡ P.Plan (planOf 5 true)) × (planAt some 2 ≡ P.Nothing) × (routeAt some 64 ≡ R.Nothing)
+plans : (planAt some 1 ≡ P.Plan (planOf 5 true)) × (planAt some 2 ≡ P.Nothing) × (routeAt some slots ≡ R.Nothing)
 unfolding some planAt planCount routeAt routeCount
 plans = (refl, refl, refl)
 
@@ -98,6 +99,6 @@ abbrev code : Matrix → Config → List Float → ℕ
 code m c tables = compile (wired m c) tables (record { values = []; audio = []; tables = [] }) .answer .code
 
 -- a slot's amount that is not a number is 6, before a rate of 0; a named table that is not there is 14, and one that holds 17 is 6; a program without plans needs nothing
-codes : (code newMatrix (at one32 64) [] ≡ 0) × (code newMatrix (at zero32 64) [] ≡ 13) × (code (withSlot newMatrix 63 (withAmount nan emptySlot)) (at zero32 64) [] ≡ 6) × (code (withVelocity newMatrix N.Table) (at one32 64) [] ≡ 14) × (code (withVelocity newMatrix N.Table) (at one32 64) (replicate 65664 zero32 ++ (fin false 17 (pos 0) ∷ [])) ≡ 6)
+codes : (code newMatrix (at one32 64) [] ≡ 0) × (code newMatrix (at zero32 64) [] ≡ 13) × (code (withSlot newMatrix (slots - 1) (withAmount nan emptySlot)) (at zero32 64) [] ≡ 6) × (code (withVelocity newMatrix N.Table) (at one32 64) [] ≡ 14) × (code (withVelocity newMatrix N.Table) (at one32 64) (replicate (velocityPlace * points) zero32 ++ (fin false 17 (pos 0) ∷ [])) ≡ 6)
 unfolding compile judged namesTable anyNames slotNames namedAllowed slotsAllowed slotAllowed placeAllowed rowAt part allAllowed allowed allFinite numbersFinite secondsFinite finite le newMatrix withSlot withSlots withVelocity withAmount emptySlot compiled padded verdict verdictsFrom verdicts candidates skippedOf inUse controls audios reads readersOf isAudio planOrder order plansOf allRoutes
 codes = (refl, refl, refl, refl, refl)

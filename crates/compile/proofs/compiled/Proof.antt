@@ -1,6 +1,7 @@
 -- `compile::compiled` meets its contract: the steps, put together.
 use mathlib.Core.Path.{_≡_}
 use lib.ListN.{length, length-map}
+use Rattle.config.specs.Sizes.{slots}
 use Rattle.state.specs.declared.Wiring.{Wiring}
 use Rattle.model.specs.Plans.{compiled}
 use Rattle.compile.proofs.Assembled.{Steps, plan-count, control-count, route-count, plan-array, route-array, skip-count, skip-array}
@@ -49,7 +50,7 @@ unfolding compiled
 returns c =
     let a = c .before .before .before .before .before .before .before .before .before .before .before .before .before .before .before .before .before .args in
     let w : Wiring = record { matrix = a .matrix; sources = a .sources; dests = a .dests; config = a .config } in
-    let long : length (a .matrix .slot) ≡ 64 = simp length-map at (c .before .before .before .before .before .before .before .before .before .before .before .before .before .before .before .before .before .good .0 .1 .1 .0 .1 .0 .1) in
+    let long : length (a .matrix .slot) ≡ slots = simp length-map at (c .before .before .before .before .before .before .before .before .before .before .before .before .before .before .before .before .before .good .0 .1 .1 .0 .1 .0 .1) in
     let steps : Steps w (c .before .before .before .before .before .before .before .before .before .before .before .before .before .before .before .verdicts .result) (c .before .before .before .before .before .before .before .before .before .before .before .before .before .before .candidates .result) (c .before .before .before .before .before .before .before .before .before .before .before .before .before .used-dests .result) (c .before .before .before .before .before .before .before .before .before .before .before .before .readers .result) (c .before .before .before .before .before .before .before .before .before .before .before .plan-order .result) (c .before .before .before .before .before .before .before .before .before .plans .result) (c .before .before .before .before .before .before .before .routes .result) (c .before .before .before .before .before .skips .result) =
     record {
       judges = c .before .before .before .before .before .before .before .before .before .before .before .before .before .before .before .verdicts .ensures;

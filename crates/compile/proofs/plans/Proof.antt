@@ -4,6 +4,7 @@ use Prim.Native.Nat.{_*_, _≤_, _-_}
 use native.Mathlib.Omega.{arith}
 use borrow.Author.Needs.{needs}
 use lib.ListN.{length, getD}
+use Rattle.config.specs.Sizes.{slots}
 use Rattle.state_filled.specs.Filled.{candidatesIn, readersIn, numbersIn}
 use Rattle.state_filled.proofs.Stored.{stored-from, stored-end}
 use Rattle.compile.proofs.Planned.{Planned, planned-none, planned-more, planned-all}
@@ -12,7 +13,7 @@ use Rattle.compile.proofs.plans.Tie as tie
 
 abbrev Inv-loop : tie.InvT-loop
 Inv-loop sources dests candidates readers order n out₀ first₀ k₀ out first k =
-    (k ≤ n) × (first ≤ k * 64) × (length (order .at) ≡ 64) × Planned sources dests (candidatesIn candidates) (readersIn readers) (numbersIn order) k first out
+    (k ≤ n) × (first ≤ k * slots) × (length (order .at) ≡ slots) × Planned sources dests (candidatesIn candidates) (readersIn readers) (numbersIn order) k first out
 
 abbrev μ-loop : tie.MeasureT-loop
 μ-loop sources dests candidates readers order n out₀ first₀ k₀ out first k = n - k

@@ -4,6 +4,7 @@ use Prim.Native.Nat.{_≤_, _-_}
 use native.Mathlib.Omega.{arith}
 use borrow.Author.Needs.{needs}
 use lib.ListN.{length, getD}
+use Rattle.config.specs.Sizes.{slots}
 use Rattle.state_filled.specs.Filled.{readersIn, numbersIn}
 use Rattle.state_filled.proofs.Stored.{stored-from, stored-end}
 use Rattle.compile.proofs.Planned.{Routed, routed-more, routed-all}
@@ -46,7 +47,7 @@ unfolding numbersIn
 loop-again c =
     let a = c .before .before .before .before .before .before .args in
     let l = c .before .before .before .loop in
-    let e : length (a .t6 .at) ≡ 64 = search needs in
+    let e : length (a .t6 .at) ≡ slots = search needs in
     let d = getD (a .t6 .at) (l .k) 0 in
     let here = stored-from (a .t6 .at) (a .t6 .count) e (l .k) 0 (omega (arith, c .before .before .before .before .before .held .ensures)) in
     (search needs, rw (c .with-routes .ensures) (routed-more (a .rate) (a .sources) (a .dests) (a .slot) (readersIn (a .readers)) (numbersIn (a .t6)) (l .k) d (l .out) here (l .inv .1)))
@@ -56,7 +57,7 @@ unfolding numbersIn
 returns c =
     let a = c .before .before .before .before .args in
     let l = c .before .loop in
-    let e : length (a .t6 .at) ≡ 64 = search needs in
+    let e : length (a .t6 .at) ≡ slots = search needs in
     let end = stored-end (a .t6 .at) (a .t6 .count) e (l .k) (omega (arith, c .before .before .before .held .ensures)) in
     routed-all (a .rate) (a .sources) (a .dests) (a .slot) (readersIn (a .readers)) (numbersIn (a .t6)) (l .k) (l .out) end (l .inv .1)
 

@@ -47,7 +47,7 @@ loop-again : tie.Need-loop-again Inv-loop μ-loop
 loop-again c =
     let l = c .before .before .before .loop in
     let vs = c .before .before .before .before .before .args .t1 in
-    let e : length vs ≡ 64 = search needs in (
+    let e : length vs ≡ slots = search needs in (
       search needs,
       c .with-candidate .ensures ∙ ap (λ (o : Candidates). candidateAdded o (getD vs (l .i) Over)) (l .inv .1) ∙ candidates-next vs (l .i) Over e (omega arith),
     )
@@ -56,7 +56,7 @@ returns : tie.Need-returns Inv-loop μ-loop
 returns c =
     let l = c .before .loop in
     let vs = c .before .before .before .args .t1 in
-    let e : length vs ≡ 64 = search needs in
+    let e : length vs ≡ slots = search needs in
     l .inv .1 ∙ ap (λ (m : List Verdict). candidatesOf (takenOf m)) (whole vs (l .i) e (omega arith))
 
 pub candidates-spec : {M : Type 1} → statement M

@@ -47,7 +47,7 @@ loop-again : tie.Need-loop-again Inv-loop μ-loop
 loop-again c =
     let l = c .before .before .before .loop in
     let vs = c .before .before .before .before .before .args .t1 in
-    let e : length vs ≡ 64 = search needs in (
+    let e : length vs ≡ slots = search needs in (
       search needs,
       c .with-skipped .ensures ∙ ap (λ (o : Skips). skipAdded o (l .n) (getD vs (l .n) Over)) (l .inv .1) ∙ skips-next vs (l .n) Over e (omega arith),
     )
@@ -56,7 +56,7 @@ returns : tie.Need-returns Inv-loop μ-loop
 returns c =
     let l = c .before .loop in
     let vs = c .before .before .before .args .t1 in
-    let e : length vs ≡ 64 = search needs in
+    let e : length vs ≡ slots = search needs in
     l .inv .1 ∙ ap (λ (m : List Verdict). skipsOf (leftOutFrom 0 m)) (whole vs (l .n) e (omega arith))
 
 pub skips-spec : {M : Type 1} → statement M

@@ -43,7 +43,7 @@ loop-again : tie.Need-loop-again Inv-loop μ-loop
 loop-again c =
     let l = c .before .before .before .loop in
     let a = c .before .before .before .before .args in
-    let e : length (a .t3) ≡ 64 = search needs in (
+    let e : length (a .t3) ≡ slots = search needs in (
       search needs,
       judged-more (a .sources) (a .dests) (a .t3) (l .n) _ (l .out) _ e (omega arith) (l .inv .1) (c .verdict .ensures),
     )
@@ -52,7 +52,7 @@ returns : tie.Need-returns Inv-loop μ-loop
 returns c =
     let l = c .before .loop in
     let a = c .before .before .args in
-    let e : length (a .t3) ≡ 64 = search needs in
+    let e : length (a .t3) ≡ slots = search needs in
     judged-all (a .sources) (a .dests) (a .t3) (l .n) (l .out) e (omega arith) (l .inv .1)
 
 pub verdicts-spec : {M : Type 1} → statement M

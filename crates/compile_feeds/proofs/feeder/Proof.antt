@@ -6,6 +6,7 @@ use native.Mathlib.Omega.{arith}
 use borrow.Author.Needs.{needs}
 use lib.ListN.{length}
 use Rattle.list.proofs.Elements.{length-mapped}
+use Rattle.config.specs.Sizes.{slots}
 use Rattle.compile_feeds.proofs.Fed.{Found, found-none, found-next, found-all}
 use Rattle.compile_feeds.proofs.feeder.Statement.{statement}
 use Rattle.compile_feeds.proofs.feeder.Tie as tie
@@ -41,14 +42,14 @@ loop-again : tie.Need-loop-again Inv-loop μ-loop
 loop-again c =
     let l = c .before .before .before .loop in
     let a = c .before .before .before .before .before .args in
-    let e : length (a .t1 .at) ≡ 64 = search (needs, length-mapped) in
+    let e : length (a .t1 .at) ≡ slots = search (needs, length-mapped) in
     (search needs, found-next (a .t1) (a .thing) e (l .i) (l .found) (l .inv .1) (omega arith) (c .later .result) (c .later .ensures))
 
 returns : tie.Need-returns Inv-loop μ-loop
 returns c =
     let l = c .before .loop in
     let a = c .before .before .before .args in
-    let e : length (a .t1 .at) ≡ 64 = search (needs, length-mapped) in
+    let e : length (a .t1 .at) ≡ slots = search (needs, length-mapped) in
     sym (found-all (a .t1) (a .thing) e (l .i) (l .found) (l .inv .1) (omega arith))
 
 pub feeder-spec : {M : Type 1} → statement M

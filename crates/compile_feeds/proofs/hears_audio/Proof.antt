@@ -5,6 +5,7 @@ use native.Mathlib.Omega.{arith}
 use borrow.Author.Needs.{needs}
 use lib.ListN.{length}
 use Rattle.list.proofs.Elements.{length-mapped}
+use Rattle.config.specs.Sizes.{slots}
 use Rattle.compile_feeds.proofs.Heard.{Unheard, unheard-none, heard-here, unheard-next, unheard-all}
 use Rattle.compile_feeds.proofs.hears_audio.Statement.{statement}
 use Rattle.compile_feeds.proofs.hears_audio.Tie as tie
@@ -34,7 +35,7 @@ returns : tie.Need-returns Inv-loop μ-loop
 returns c =
     let l = c .before .before .before .before .loop in
     let a = c .before .before .before .before .before .before .args in
-    let e : length (a .t2 .at) ≡ 64 = search (needs, length-mapped) in
+    let e : length (a .t2 .at) ≡ slots = search (needs, length-mapped) in
     sym (heard-here (a .sources) (a .t2) (a .d) e (l .i) (l .inv .1) (omega arith) (sym (c .before .hears .ensures) ∙ c .if1 .taken))
 
 add-i : tie.Need-add-i Inv-loop μ-loop
@@ -47,14 +48,14 @@ loop-again : tie.Need-loop-again Inv-loop μ-loop
 loop-again c =
     let l = c .before .before .before .before .loop in
     let a = c .before .before .before .before .before .before .args in
-    let e : length (a .t2 .at) ≡ 64 = search (needs, length-mapped) in
+    let e : length (a .t2 .at) ≡ slots = search (needs, length-mapped) in
     (search needs, unheard-next (a .sources) (a .t2) (a .d) e (l .i) (l .inv .1) (omega arith) (sym (c .before .hears .ensures) ∙ c .if1 .left))
 
 returns-2 : tie.Need-returns-2 Inv-loop μ-loop
 returns-2 c =
     let l = c .before .loop in
     let a = c .before .before .before .args in
-    let e : length (a .t2 .at) ≡ 64 = search (needs, length-mapped) in
+    let e : length (a .t2 .at) ≡ slots = search (needs, length-mapped) in
     sym (unheard-all (a .sources) (a .t2) (a .d) e (l .i) (l .inv .1) (omega arith))
 
 pub hears-audio-spec : {M : Type 1} → statement M

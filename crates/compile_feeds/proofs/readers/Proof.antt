@@ -5,6 +5,7 @@ use native.Mathlib.Omega.{arith}
 use borrow.Author.Needs.{needs}
 use lib.ListN.{length}
 use Rattle.list.proofs.Elements.{length-mapped}
+use Rattle.config.specs.Sizes.{slots}
 use Rattle.state_filled.specs.Filled.{usedDestsIn}
 use Rattle.model.specs.Feeds.{readerBy, feederIn}
 use Rattle.compile_feeds.proofs.Reading.{Read, read-next, read-all}
@@ -48,7 +49,7 @@ loop-again : tie.Need-loop-again Inv-loop μ-loop
 loop-again c =
     let l = c .before .before .before .before .loop in
     let a = c .before .before .before .before .before .before .before .args in
-    let e : length (a .t2 .at) ≡ 64 = search (needs, length-mapped) in
+    let e : length (a .t2 .at) ≡ slots = search (needs, length-mapped) in
     let more = read-next _ (a .t2) e (l .i) (l .out) (l .inv .1) (omega arith) in
     (search needs, more (c .before .reader .result) (c .add-reader .result) (c .before .reader .ensures) (c .add-reader .ensures))
 
@@ -56,7 +57,7 @@ returns : tie.Need-returns Inv-loop μ-loop
 returns c =
     let l = c .before .loop in
     let a = c .before .before .before .before .args in
-    let e : length (a .t2 .at) ≡ 64 = search (needs, length-mapped) in
+    let e : length (a .t2 .at) ≡ slots = search (needs, length-mapped) in
     read-all _ (a .t2) e (l .i) (l .out) (l .inv .1) (omega arith)
 
 pub readers-spec : {M : Type 1} → statement M

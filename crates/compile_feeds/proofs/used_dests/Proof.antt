@@ -6,6 +6,7 @@ use native.Mathlib.Omega.{arith}
 use borrow.Author.Needs.{needs}
 use lib.ListN.{length}
 use Rattle.list.proofs.Elements.{length-mapped}
+use Rattle.config.specs.Sizes.{slots}
 use Rattle.state.specs.Registry.{destCount}
 use Rattle.state_filled.specs.Filled.{candidatesIn}
 use Rattle.compile_feeds.proofs.Using.{Using, using-next, using-all, candidates-most}
@@ -49,7 +50,7 @@ loop-again : tie.Need-loop-again Inv-loop μ-loop
 loop-again c =
     let l = c .before .before .before .loop in
     let a = c .before .before .before .before .before .before .args in
-    let e : length (a .candidates .at) ≡ 64 = search (needs, length-mapped) in
+    let e : length (a .candidates .at) ≡ slots = search (needs, length-mapped) in
     let more = using-next (a .sources) (a .t2) (candidatesIn (a .candidates)) (candidates-most (a .candidates) e) in
     (search needs, more (l .d) (l .out) (c .with-used .result) (l .inv .1) (c .with-used .ensures))
 

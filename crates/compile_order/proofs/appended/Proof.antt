@@ -5,6 +5,7 @@ use Prim.Native.Nat.{_+_, _≤_, _-_}
 use native.Mathlib.Omega.{arith}
 use borrow.Author.Needs.{needs}
 use lib.ListN.{length, drop}
+use Rattle.config.specs.Sizes.{slots}
 use Rattle.state_filled.specs.declared.Numbers.{Numbers}
 use Rattle.state_filled.specs.Filled.{numbersIn}
 use Rattle.compile_order.specs.Marks.{numbersAdded}
@@ -44,7 +45,7 @@ loop-again c =
     let at-loop = c .before .before .before in
     let l = at-loop .loop in
     let a = at-loop .before .before .args in
-    let long : length (a .t2 .at) ≡ 64 = search needs in (
+    let long : length (a .t2 .at) ≡ slots = search needs in (
       search needs,
       ap (λ (x : Numbers). numbersAdded x (drop (l .i + 1) (numbersIn (a .t2)))) (c .add-number .ensures)
           ∙ added-turn (a .t2) _ long (l .i) (l .out) (omega arith) (l .inv .1),
@@ -54,7 +55,7 @@ returns : tie.Need-returns Inv-loop μ-loop
 returns c =
     let l = c .before .loop in
     let a = c .before .before .before .args in
-    let long : length (a .t2 .at) ≡ 64 = search needs in
+    let long : length (a .t2 .at) ≡ slots = search needs in
     added-end (a .t2) _ long (l .i) (l .out) (omega arith) (l .inv .1)
 
 pub appended-spec : {M : Type 1} → statement M

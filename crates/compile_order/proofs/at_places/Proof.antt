@@ -6,6 +6,7 @@ use Prim.Native.Nat.{_≤_, _-_}
 use native.Mathlib.Omega.{arith}
 use borrow.Author.Needs.{needs}
 use lib.ListN.{length, getD, take}
+use Rattle.config.specs.Sizes.{slots}
 use Rattle.state_filled.specs.Filled.{numbersOf, withNumber}
 use Rattle.compile_order.proofs.Lists.{placed-turn, placed-end}
 use Rattle.compile_order.proofs.at_places.Statement.{statement}
@@ -49,7 +50,7 @@ loop-again c =
     let at-loop = c .before .before .before .before in
     let l = at-loop .loop in
     let a = at-loop .before .before .before .args in
-    let long : length (a .t2 .place) ≡ 64 = search needs in (
+    let long : length (a .t2 .place) ≡ slots = search needs in (
       search needs,
       c .add-number .ensures
           ∙ ap (withNumber (l .out)) (c .before .number-at .ensures)
@@ -60,7 +61,7 @@ returns : tie.Need-returns Inv-loop μ-loop
 returns c =
     let l = c .before .loop in
     let a = c .before .before .before .before .args in
-    let long : length (a .t2 .place) ≡ 64 = search needs in
+    let long : length (a .t2 .place) ≡ slots = search needs in
     placed-end (λ i. getD (a .list .at) i 0) (a .t2 .place) (a .t2 .count) long (l .k) (l .out) (omega arith) (l .inv .1)
 
 pub at-places-spec : {M : Type 1} → statement M

@@ -6,6 +6,7 @@ use native.Mathlib.Omega.{arith}
 use borrow.Author.Needs.{needs}
 use lib.ListN.{length, drop}
 use Rattle.list.proofs.Elements.{length-mapped}
+use Rattle.config.specs.Sizes.{slots}
 use Rattle.state_filled.specs.Filled.{readersIn}
 use Rattle.model.specs.Feeds.{anyReads}
 use Rattle.compile_order.proofs.Looking.{read-here, read-later, read-none}
@@ -38,7 +39,7 @@ returns c =
     let at-loop = c .before .before .before .before in
     let l = at-loop .loop in
     let a = at-loop .before .before .args in
-    let long : length (a .t1 .at) ≡ 64 = search (needs, length-mapped) in
+    let long : length (a .t1 .at) ≡ slots = search (needs, length-mapped) in
     sym (l .inv .1 ∙ read-here (a .t1) (a .a) (a .b) long (l .i) _ (omega arith) (sym (c .before .reads .ensures) ∙ c .if1 .taken))
 
 add-i : tie.Need-add-i Inv-loop μ-loop
@@ -52,14 +53,14 @@ loop-again c =
     let at-loop = c .before .before .before .before in
     let l = at-loop .loop in
     let a = at-loop .before .before .args in
-    let long : length (a .t1 .at) ≡ 64 = search (needs, length-mapped) in
+    let long : length (a .t1 .at) ≡ slots = search (needs, length-mapped) in
     (search needs, l .inv .1 ∙ read-later (a .t1) (a .a) (a .b) long (l .i) _ (omega arith) (sym (c .before .reads .ensures) ∙ c .if1 .left))
 
 returns-2 : tie.Need-returns-2 Inv-loop μ-loop
 returns-2 c =
     let l = c .before .loop in
     let a = c .before .before .before .args in
-    let long : length (a .t1 .at) ≡ 64 = search (needs, length-mapped) in
+    let long : length (a .t1 .at) ≡ slots = search (needs, length-mapped) in
     sym (l .inv .1 ∙ read-none (a .t1) (a .a) (a .b) long (l .i) (omega arith))
 
 pub is-read-spec : {M : Type 1} → statement M

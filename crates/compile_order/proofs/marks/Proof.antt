@@ -6,6 +6,7 @@ use native.Mathlib.Omega.{arith}
 use borrow.Author.Needs.{needs}
 use lib.ListN.{replicate}
 use Rattle.list.proofs.Filled.{Filled, filled-none, filled-more, filled-all}
+use Rattle.feed.specs.Marks.{pairs}
 use Rattle.state_filled.specs.Filled.{readersIn, numbersIn}
 use Rattle.compile_order.specs.Marks.{markAt}
 use Rattle.compile_order.proofs.marks.Statement.{statement}
@@ -13,10 +14,10 @@ use Rattle.compile_order.proofs.marks.Tie as tie
 
 abbrev Inv-loop : tie.InvT-loop
 Inv-loop readers control out₀ p₀ out p =
-    (p ≤ 4096) × Filled (replicate 4096 false) (markAt (readersIn readers) (numbersIn control)) p out
+    (p ≤ pairs) × Filled (replicate pairs false) (markAt (readersIn readers) (numbersIn control)) p out
 
 abbrev μ-loop : tie.MeasureT-loop
-μ-loop readers control out₀ p₀ out p = 4096 - p
+μ-loop readers control out₀ p₀ out p = pairs - p
 
 loop-holds : tie.Need-loop-holds Inv-loop μ-loop
 loop-holds c = (search needs, filled-none _ _)

@@ -4,6 +4,7 @@ use native.Mathlib.Omega.{arith}
 use borrow.Author.Needs.{needs}
 use lib.ListN.{length}
 use Rattle.list.proofs.Elements.{getD-past}
+use Rattle.config.specs.Sizes.{slots}
 use Rattle.compile_order.proofs.number_at.Statement.{statement}
 use Rattle.compile_order.proofs.number_at.Tie as tie
 
@@ -19,7 +20,7 @@ returns c = search needs
 returns-2 : tie.Need-returns-2
 returns-2 c =
     let a = c .before .args in
-    let e : length (a .t1 .at) ≡ 64 = search needs in
+    let e : length (a .t1 .at) ≡ slots = search needs in
     sym (getD-past (a .t1 .at) (a .i) 0 (omega arith))
 
 pub number-at-spec : {M : Type 1} → statement M

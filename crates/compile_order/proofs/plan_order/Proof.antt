@@ -2,6 +2,7 @@
 use mathlib.Core.Path.{_≡_}
 use borrow.Author.Needs.{needs}
 use lib.ListN.{length, length-map}
+use Rattle.config.specs.Sizes.{slots}
 use Rattle.state_filled.specs.Filled.{usedDestsIn, readersIn}
 use Rattle.compile_order.proofs.Lists.{used-most}
 use Rattle.compile_order.proofs.Marked.{planned}
@@ -38,7 +39,7 @@ returns c =
     let h = m .before in
     let r = h .before in
     let a = r .before .args in
-    let long : length (a .used .at) ≡ 64 = simp length-map at (r .before .good .0 .1 .1 .1 .0 .1 .0 .1) in
+    let long : length (a .used .at) ≡ slots = simp length-map at (r .before .good .0 .1 .1 .1 .0 .1 .0 .1) in
     planned (usedDestsIn (a .used)) (readersIn (a .readers)) (used-most (a .used) long) _ _ _ _ _ _ _ (r .rated .ensures) (h .held .ensures) (m .marks .ensures)
     (o .plan-order .ensures) (p .at-places .ensures) (r2 .rated2 .ensures) (c .appended .ensures)
 

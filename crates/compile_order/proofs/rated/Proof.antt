@@ -6,6 +6,7 @@ use native.Mathlib.Omega.{arith}
 use borrow.Author.Needs.{needs}
 use lib.ListN.{length, take}
 use Rattle.list.proofs.Elements.{length-mapped}
+use Rattle.config.specs.Sizes.{slots}
 use Rattle.state_filled.specs.Filled.{usedDestsIn, numbersOf}
 use Rattle.compile_order.specs.Marks.{ratedAs}
 use Rattle.compile_order.proofs.Lists.{rated-turn, rated-end}
@@ -47,14 +48,14 @@ loop-again c =
     let at-loop = c .before .before .before in
     let l = at-loop .loop in
     let a = at-loop .before .before .before .args in
-    let long : length (a .t1 .at) ≡ 64 = search (needs, length-mapped) in
+    let long : length (a .t1 .at) ≡ slots = search (needs, length-mapped) in
     (search needs, c .with-rated .ensures ∙ rated-turn (a .t1) (a .audio) long (l .i) _ (l .out) (omega arith) (l .inv .1))
 
 returns : tie.Need-returns Inv-loop μ-loop
 returns c =
     let l = c .before .loop in
     let a = c .before .before .before .before .args in
-    let long : length (a .t1 .at) ≡ 64 = search (needs, length-mapped) in
+    let long : length (a .t1 .at) ≡ slots = search (needs, length-mapped) in
     rated-end (a .t1) (a .audio) long (l .i) (l .out) (omega arith) (l .inv .1)
 
 pub rated-spec : {M : Type 1} → statement M

@@ -5,6 +5,7 @@ use native.Mathlib.Omega.{arith}
 use borrow.Author.Needs.{needs}
 use lib.ListN.{length, drop}
 use Rattle.list.proofs.Elements.{length-mapped}
+use Rattle.config.specs.Sizes.{slots}
 use Rattle.state_filled.specs.Filled.{noReader, readersIn}
 use Rattle.compile_routes.proofs.Turns.{many, many-next, many-all}
 use Rattle.compile_routes.proofs.route_count.Statement.{statement}
@@ -44,14 +45,14 @@ loop-again : tie.Need-loop-again Inv-loop μ-loop
 loop-again c =
     let l = c .before .before .before .loop in
     let a = c .before .before .before .before .before .args in
-    let e : length (a .t1 .at) ≡ 64 = search (needs, length-mapped) in
+    let e : length (a .t1 .at) ≡ slots = search (needs, length-mapped) in
     (search needs, search needs, omega (arith, c .one-if .ensures .0, many-next (a .d) (a .t1) e (l .i) noReader (omega arith)))
 
 returns : tie.Need-returns Inv-loop μ-loop
 returns c =
     let l = c .before .loop in
     let a = c .before .before .before .args in
-    let e : length (a .t1 .at) ≡ 64 = search (needs, length-mapped) in
+    let e : length (a .t1 .at) ≡ slots = search (needs, length-mapped) in
     (omega (arith, many-all (a .d) (a .t1) e (l .i) (omega arith)), omega arith)
 
 pub route-count-spec : {M : Type 1} → statement M

@@ -4,6 +4,7 @@ use native.Mathlib.Omega.{arith}
 use borrow.Author.Needs.{needs}
 use lib.ListN.{length}
 use Rattle.list.proofs.Elements.{getD-past, length-mapped}
+use Rattle.config.specs.Sizes.{slots}
 use Rattle.compile_routes.proofs.slot_at.Statement.{statement}
 use Rattle.compile_routes.proofs.slot_at.Tie as tie
 
@@ -22,7 +23,7 @@ no-slot-requires c κs = search needs
 returns-2 : tie.Need-returns-2
 returns-2 c =
     let a = c .before .before .args in
-    let e : length (a .t1) ≡ 64 = search (needs, length-mapped) in
+    let e : length (a .t1) ≡ slots = search (needs, length-mapped) in
     c .no-slot .ensures ∙ sym (getD-past (a .t1) (a .n) _ (omega arith))
 
 pub slot-at-spec : {M : Type 1} → statement M

@@ -5,6 +5,7 @@ use native.Mathlib.Omega.{arith}
 use borrow.Author.Needs.{needs}
 use lib.ListN.{length, drop}
 use Rattle.list.proofs.Elements.{length-mapped}
+use Rattle.config.specs.Sizes.{slots}
 use Rattle.state_filled.specs.Filled.{numbersIn, readersIn}
 use Rattle.compile_routes.proofs.Turns.{laid, laid-next, laid-all}
 use Rattle.compile_routes.proofs.with_routes.Statement.{statement}
@@ -43,7 +44,7 @@ loop-again : tie.Need-loop-again Inv-loop μ-loop
 loop-again c =
     let l = c .before .before .before .loop in
     let a = c .before .before .before .before .before .args in
-    let e : length (a .t8 .at) ≡ 64 = search (needs, length-mapped) in (
+    let e : length (a .t8 .at) ≡ slots = search (needs, length-mapped) in (
       search needs,
       laid-next (a .rate) (a .sources) (numbersIn (a .order)) (a .slot) (a .dest-voice) (a .d) (a .t8) _ e (l .i) _ (l .out) _ (omega arith) (l .inv .1)
           (c .with-route .ensures),
@@ -53,7 +54,7 @@ returns : tie.Need-returns Inv-loop μ-loop
 returns c =
     let l = c .before .loop in
     let a = c .before .before .before .args in
-    let e : length (a .t8 .at) ≡ 64 = search (needs, length-mapped) in
+    let e : length (a .t8 .at) ≡ slots = search (needs, length-mapped) in
     laid-all (a .rate) (a .sources) (numbersIn (a .order)) (a .slot) (a .dest-voice) (a .d) (a .t8) _ e (l .i) (l .out) (omega arith) (l .inv .1)
 
 pub with-routes-spec : {M : Type 1} → statement M

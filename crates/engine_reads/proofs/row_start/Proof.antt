@@ -1,15 +1,16 @@
 -- `engine_reads::row_start` meets its contract.
 use native.Mathlib.Omega.{arith}
+use Rattle.config.specs.Sizes.{mostFrames, mostStride}
 use Rattle.layout.proofs.Bounds.{product-bound}
 use borrow.Author.Needs.{needs}
 use Rattle.engine_reads.proofs.row_start.Statement.{statement}
 use Rattle.engine_reads.proofs.row_start.Tie as tie
 
 mul-result : tie.Need-mul-result
-mul-result c = omega (arith, product-bound (c .args .k) (c .args .width) 4096 64 (omega arith) (omega arith))
+mul-result c = omega (arith, product-bound (c .args .k) (c .args .width) mostFrames mostStride (omega arith) (omega arith))
 
 add-result : tie.Need-add-result
-add-result c = omega (arith, product-bound (c .args .k) (c .args .width) 4096 64 (omega arith) (omega arith))
+add-result c = omega (arith, product-bound (c .args .k) (c .args .width) mostFrames mostStride (omega arith) (omega arith))
 
 returns : tie.Need-returns
 returns c = search needs

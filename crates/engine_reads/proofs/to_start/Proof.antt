@@ -1,7 +1,9 @@
 -- `engine_reads::to_start` meets its contract.
 use Prim.Native.Nat.{_+_}
 use native.Mathlib.Omega.{arith}
+use Rattle.config.specs.Sizes.{slots, mostFrames, mostStride, mostChunks}
 use Rattle.layout.proofs.Bounds.{product-bound}
+use Rattle.model.specs.Layout.{planSize}
 use borrow.Author.Needs.{needs}
 use Rattle.engine_reads.proofs.to_start.Statement.{statement}
 use Rattle.engine_reads.proofs.to_start.Tie as tie
@@ -10,7 +12,7 @@ plan-size-requires : tie.Need-plan-size-requires
 plan-size-requires c κs = search needs
 
 mul-result : tie.Need-mul-result
-mul-result c = omega (arith, product-bound (c .before .args .i) (c .plan-size .result) 64 17024 (omega arith) (omega arith))
+mul-result c = omega (arith, product-bound (c .before .args .i) (c .plan-size .result) slots (planSize mostStride (mostChunks mostFrames)) (omega arith) (omega arith))
 
 add-result : tie.Need-add-result
 add-result c = search needs
@@ -21,7 +23,7 @@ mul-result-2 c = search needs
 add-result-2 : tie.Need-add-result-2
 add-result-2 c =
     let a = c .before .args in
-    omega (arith, product-bound (a .i) (c .plan-size .result) 64 17024 (omega arith) (omega arith), product-bound (2 + a .chunks) (a .stride) 132 64 (omega arith) (omega arith))
+    omega (arith, product-bound (a .i) (c .plan-size .result) slots (planSize mostStride (mostChunks mostFrames)) (omega arith) (omega arith), product-bound (2 + a .chunks) (a .stride) (2 + mostChunks mostFrames) mostStride (omega arith) (omega arith))
 
 returns : tie.Need-returns
 returns c = rw (c .plan-size .ensures .0)

@@ -2,6 +2,7 @@
 use Prim.Native.Nat.{_*_, _≤_}
 use native.Mathlib.Omega.{arith}
 use borrow.Author.Needs.{needs}
+use Rattle.config.specs.Sizes.{slots, mostFrames, mostStride}
 use Rattle.layout.proofs.Bounds.{product-bound, stride-bound}
 use Rattle.layout.proofs.audio.Statement.{statement}
 use Rattle.layout.proofs.audio.Tie as tie
@@ -28,7 +29,7 @@ mul-result : tie.Need-mul-result
 mul-result c =
     let h = c .before .held .ensures in
     let k = c .held-frames .ensures in
-    omega (arith, product-bound (c .before .held .result) (c .held-frames .result) 64 4096 (omega (arith, h)) (omega (arith, k)))
+    omega (arith, product-bound (c .before .held .result) (c .held-frames .result) slots mostFrames (omega (arith, h)) (omega (arith, k)))
 
 -- src/lib.rt:36:5
 mul-result-2 : tie.Need-mul-result-2
@@ -36,8 +37,8 @@ mul-result-2 c =
     let h = c .before .held .ensures in
     let k = c .held-frames .ensures in
     let s = c .before .before .lane-stride in
-    let p = product-bound (c .before .held .result) (c .held-frames .result) 64 4096 (omega (arith, h)) (omega (arith, k)) in
-    omega (arith, product-bound (s .result) (c .before .held .result * c .held-frames .result) 64 262144 (rw (s .ensures) (stride-bound _)) p)
+    let p = product-bound (c .before .held .result) (c .held-frames .result) slots mostFrames (omega (arith, h)) (omega (arith, k)) in
+    omega (arith, product-bound (s .result) (c .before .held .result * c .held-frames .result) mostStride (slots * mostFrames) (rw (s .ensures) (stride-bound _)) p)
 
 -- src/lib.rt:33:1
 returns : tie.Need-returns

@@ -3,15 +3,16 @@ use mathlib.Core.Path.{refl}
 use Prim.Native.Nat.{_+_, _*_, _≤_}
 use native.Mathlib.Omega.{arith}
 use borrow.Author.Needs.{needs}
+use Rattle.config.specs.Sizes.{slots, mostFrames, mostChunks}
 use Rattle.layout.proofs.Bounds.{product-bound}
 use Rattle.layout.proofs.rows.Statement.{statement}
 use Rattle.layout.proofs.rows.Tie as tie
 use Rattle.layout.proofs.rows.Reads as reads
 use Rattle.layout.proofs.rows.Lts as lts
 
--- 64 plans of 266 rows
-plan-rows : (c : lts.Start reads.Pre reads.Post) → c .args .plans * (2 * c .args .chunks + 6) ≤ 17024
-plan-rows c = product-bound (c .args .plans) (2 * c .args .chunks + 6) 64 266 (omega (arith, c .pre)) (omega (arith, c .pre))
+-- the most plans, of the most rows
+plan-rows : (c : lts.Start reads.Pre reads.Post) → c .args .plans * (2 * c .args .chunks + 6) ≤ slots * (2 * mostChunks mostFrames + 6)
+plan-rows c = product-bound (c .args .plans) (2 * c .args .chunks + 6) slots (2 * mostChunks mostFrames + 6) (omega (arith, c .pre)) (omega (arith, c .pre))
 
 mul-result : tie.Need-mul-result
 mul-result c = search needs

@@ -1,6 +1,8 @@
 -- `layout::values` meets its contract.
 use native.Mathlib.Omega.{arith}
 use borrow.Author.Needs.{needs}
+use Rattle.config.specs.Sizes.{slots, mostFrames, mostStride, mostChunks}
+use Rattle.model.specs.Need.{valuesRows}
 use Rattle.layout.proofs.Bounds.{product-bound, stride-bound}
 use Rattle.layout.proofs.values.Statement.{statement}
 use Rattle.layout.proofs.values.Tie as tie
@@ -35,7 +37,7 @@ rows-requires c κs = search needs
 mul-result : tie.Need-mul-result
 mul-result c =
     let stride = c .before .before .before .before .lane-stride in
-    omega (arith, product-bound (stride .result) (c .rows .result) 64 17536 (rw (stride .ensures) (stride-bound _)) (c .rows .ensures .1))
+    omega (arith, product-bound (stride .result) (c .rows .result) mostStride (valuesRows (mostChunks mostFrames) slots slots) (rw (stride .ensures) (stride-bound _)) (c .rows .ensures .1))
 
 -- src/lib.rt:9:1
 returns : tie.Need-returns

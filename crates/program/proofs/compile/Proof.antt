@@ -4,6 +4,7 @@ use Prim.Native.Nat.{_≤_}
 use lib.Ieee.{Float}
 use lib.ListN.{length, length-map}
 use mathlib.Core.List.{List}
+use Rattle.config.specs.Sizes.{slots}
 use Rattle.state.specs.declared.Wiring.{Wiring}
 use Rattle.model.specs.Compile.{Memories, Made}
 use Rattle.program.proofs.Compiling.{compile-early, refused-by-tables, refused-by-memory, made, values-fit, audio-fits}
@@ -42,7 +43,7 @@ returns-2 c =
     let w : Wiring = record { matrix = a .matrix; sources = a .sources; dests = a .dests; config = a .config } in
     let mt : List Float = now (a .matrix-tables) in
     let l : Memories = record { values = now (a .values); audio = now (a .audio); tables = now (a .tables) } in
-    let long : length (a .matrix .slot) ≡ 64 = simp length-map at (c .before .before .before .before .before .before .before .before .before .before .good .0 .1 .1 .0 .1 .0 .1) in
+    let long : length (a .matrix .slot) ≡ slots = simp length-map at (c .before .before .before .before .before .before .before .before .before .before .good .0 .1 .1 .0 .1 .0 .1) in
     let e = sym (c .before .before .before .before .before .early-code .ensures) ∙ c .before .before .before .before .if1 .left in
     let p = c .before .before .before .compiled .result in
     let is = c .before .before .before .compiled .ensures in
@@ -61,7 +62,7 @@ returns-3 c =
     let w : Wiring = record { matrix = a .matrix; sources = a .sources; dests = a .dests; config = a .config } in
     let mt : List Float = now (a .matrix-tables) in
     let l : Memories = record { values = now (a .values); audio = now (a .audio); tables = now (a .tables) } in
-    let long : length (a .matrix .slot) ≡ 64 = simp length-map at (c .before .before .before .before .before .before .before .before .before .before .before .before .good .0 .1 .1 .0 .1 .0 .1) in
+    let long : length (a .matrix .slot) ≡ slots = simp length-map at (c .before .before .before .before .before .before .before .before .before .before .before .before .good .0 .1 .1 .0 .1 .0 .1) in
     let e = sym (c .before .before .before .before .before .before .before .early-code .ensures) ∙ c .before .before .before .before .before .before .if1 .left in
     let p = c .before .before .before .before .before .compiled .result in
     let is = c .before .before .before .before .before .compiled .ensures in
@@ -77,7 +78,7 @@ zero-requires c κs =
     let w : Wiring = record { matrix = a .matrix; sources = a .sources; dests = a .dests; config = a .config } in
     let mt : List Float = now (a .matrix-tables) in
     let l : Memories = record { values = now (a .values); audio = now (a .audio); tables = now (a .tables) } in
-    let long : length (a .matrix .slot) ≡ 64 = simp length-map at (c .before .before .before .before .before .before .before .before .before .before .before .before .before .good .0 .1 .1 .0 .1 .0 .1) in
+    let long : length (a .matrix .slot) ≡ slots = simp length-map at (c .before .before .before .before .before .before .before .before .before .before .before .before .before .good .0 .1 .1 .0 .1 .0 .1) in
     let e = sym (c .before .before .before .before .before .before .before .before .early-code .ensures) ∙ c .before .before .before .before .before .before .before .if1 .left in
     let p = c .before .before .before .before .before .before .compiled .result in
     let is = c .before .before .before .before .before .before .compiled .ensures in
@@ -92,7 +93,7 @@ zero-requires-2 c κs =
     let w : Wiring = record { matrix = a .matrix; sources = a .sources; dests = a .dests; config = a .config } in
     let mt : List Float = now (a .matrix-tables) in
     let l : Memories = record { values = now (a .values); audio = now (a .audio); tables = now (a .tables) } in
-    let long : length (a .matrix .slot) ≡ 64 = simp length-map at (c .before .before .before .before .before .before .before .before .before .before .before .before .before .before .before .before .before .before .good .0 .1 .1 .0 .1 .0 .1) in
+    let long : length (a .matrix .slot) ≡ slots = simp length-map at (c .before .before .before .before .before .before .before .before .before .before .before .before .before .before .before .before .before .before .good .0 .1 .1 .0 .1 .0 .1) in
     let e = sym (c .before .before .before .before .before .before .before .before .before .before .before .before .before .early-code .ensures) ∙ c .before .before .before .before .before .before .before .before .before .before .before .before .if1 .left in
     let p = c .before .before .before .before .before .before .before .before .before .before .before .compiled .result in
     let is = c .before .before .before .before .before .before .before .before .before .before .before .compiled .ensures in
@@ -116,7 +117,7 @@ returns-4 c =
     let w : Wiring = record { matrix = a .matrix; sources = a .sources; dests = a .dests; config = a .config } in
     let mt : List Float = now (a .matrix-tables) in
     let l : Memories = record { values = now (a .values); audio = now (a .audio); tables = now (a .tables) } in
-    let long : length (a .matrix .slot) ≡ 64 = simp length-map at (c .before .before .before .before .before .before .before .before .before .before .before .before .before .before .before .before .before .before .before .before .before .before .before .before .before .good .0 .1 .1 .0 .1 .0 .1) in
+    let long : length (a .matrix .slot) ≡ slots = simp length-map at (c .before .before .before .before .before .before .before .before .before .before .before .before .before .before .before .before .before .before .before .before .before .before .before .before .before .good .0 .1 .1 .0 .1 .0 .1) in
     let e = sym (c .before .before .before .before .before .before .before .before .before .before .before .before .before .before .before .before .before .before .before .before .early-code .ensures) ∙ c .before .before .before .before .before .before .before .before .before .before .before .before .before .before .before .before .before .before .before .if1 .left in
     let p = c .before .before .before .before .before .before .before .before .before .before .before .before .before .before .before .before .before .before .compiled .result in
     let is = c .before .before .before .before .before .before .before .before .before .before .before .before .before .before .before .before .before .before .compiled .ensures in

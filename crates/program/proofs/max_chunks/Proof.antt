@@ -3,7 +3,7 @@ use mathlib.Core.Path.{_≡_, sym, _∙_, ap}
 use Prim.Native.Nat.{ℕ, min}
 use native.Mathlib.Omega.{arith}
 use borrow.Author.Needs.{needs}
-use Rattle.config.specs.Sizes.{mostChunks}
+use Rattle.config.specs.Sizes.{mostChunks, mostFrames}
 use Rattle.config.proofs.Accepted.{accepted as accepted-config}
 use Rattle.program.specs.Sizes.{maxChunksCall}
 use Rattle.program.proofs.Counted.{refused, accepted}
@@ -26,7 +26,7 @@ returns-2 c =
     let g = c .before .before .before .args .config in
     let k = sym (c .before .before .code .ensures) ∙ c .before .if1 .left in
     let most = accepted-config (g .«sample_rate») (g .«max_frames») (g .voices) k .frames-most in
-    let same : min (g .«max_frames») 4096 ≡ g .«max_frames» = omega arith in
+    let same : min (g .«max_frames») mostFrames ≡ g .«max_frames» = omega arith in
     accepted k (c .most-chunks .ensures ∙ ap mostChunks same)
 
 pub max-chunks-spec : {M : Type 1} → statement M

@@ -3,7 +3,7 @@ use mathlib.Core.Path.{_≡_, sym, _∙_, ap}
 use Prim.Native.Nat.{ℕ, min}
 use native.Mathlib.Omega.{arith}
 use borrow.Author.Needs.{needs}
-use Rattle.config.specs.Sizes.{laneStride}
+use Rattle.config.specs.Sizes.{laneStride, mostVoices}
 use Rattle.config.proofs.Accepted.{accepted as accepted-config}
 use Rattle.program.specs.Sizes.{strideCall}
 use Rattle.program.proofs.Counted.{refused, accepted}
@@ -26,7 +26,7 @@ returns-2 c =
     let g = c .before .before .before .args .config in
     let k = sym (c .before .before .code .ensures) ∙ c .before .if1 .left in
     let most = accepted-config (g .«sample_rate») (g .«max_frames») (g .voices) k .voices-most in
-    let same : min (g .voices) 64 ≡ g .voices = omega arith in
+    let same : min (g .voices) mostVoices ≡ g .voices = omega arith in
     accepted k (c .lane-stride .ensures ∙ ap laneStride same)
 
 pub stride-spec : {M : Type 1} → statement M
