@@ -98,7 +98,7 @@ add-refused ds d n e h = rw (sym e, ne-eqb n 0 h)
 
 -- ---- the registry after an entry is accepted
 
-module _ (ds : Destinations) (d : Dest) (long : length (ds .entry) ≡ 1024) (room : destCount ds < mostDestinations) where
+module _ (ds : Destinations) (d : Dest) (long : length (ds .entry) ≡ mostDestinations) (room : destCount ds < mostDestinations) where
   pub appended-count : destCount (appended ds d) ≡ destCount ds + 1
   unfolding appended
   appended-count = min-eq-left (omega arith)

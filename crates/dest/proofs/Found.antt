@@ -11,6 +11,7 @@ use borrow.Author.Tests.{eq-eqb, eqb-true}
 use lib.Dec.{eqb}
 use lib.ListN.{length, getD, List·getD-append, length-append}
 use lib.Seq.{getD-append-seam}
+use Rattle.config.specs.Sizes.{mostDestinations}
 use Rattle.state.specs.declared.Target.{Target}
 use Rattle.state.specs.declared.Target.the-variants.{Param, LfoBus}
 use Rattle.state.specs.declared.Dest.{Dest}
@@ -123,7 +124,7 @@ find-append-found t (x ∷ l) m n h =
 
 -- ---- once an entry is accepted
 
-module _ (ds : Destinations) (d : Dest) (long : length (ds .entry) ≡ 1024) (ok : addCode ds d ≡ 0) where
+module _ (ds : Destinations) (d : Dest) (long : length (ds .entry) ≡ mostDestinations) (ok : addCode ds d ≡ 0) where
   -- it is found at the old count
   pub added-found : findDest (appended ds d) (d .target) ≡ D.At (destCount ds)
   unfolding findDest findTarget findFrom

@@ -9,6 +9,7 @@ use native.Mathlib.Omega.{arith}
 use lib.Ieee.{nan}
 use lib.ListN.{length, getD, drop, drop-of-length-le, length-map}
 use lib.Seq.{drop-cons, getD-take, length-take-le}
+use Rattle.config.specs.Sizes.{mostDestinations}
 use Rattle.state.specs.declared.Target.{Target}
 use Rattle.state.specs.declared.Target.the-variants.{Param}
 use Rattle.state.specs.declared.Scope.the-variants as S
@@ -35,7 +36,7 @@ pub registered-at : (ds : Destinations) (i : ℕ) (d : Dest) → i < destCount d
 unfolding registered
 registered-at ds i d h = getD-take (destCount ds) (ds .entry) i d h
 
-pub registered-length : (ds : Destinations) → length (ds .entry) ≡ 1024 → length (registered ds) ≡ destCount ds
+pub registered-length : (ds : Destinations) → length (ds .entry) ≡ mostDestinations → length (registered ds) ≡ destCount ds
 unfolding registered
 registered-length ds e = length-take-le (destCount ds) (ds .entry) (omega arith)
 
@@ -53,12 +54,12 @@ entry-past [] i h = refl
 entry-past (x ∷ l) zero h = absurd (not-suc-le-zero h)
 entry-past (x ∷ l) (suc i) h = entry-past l i (le-of-suc-le-suc h)
 
-pub get-known : (ds : Destinations) (i : ℕ) (d : Dest) → length (ds .entry) ≡ 1024 → i < destCount ds → getDest ds i ≡ E.Entry (getD (ds .entry) i d)
+pub get-known : (ds : Destinations) (i : ℕ) (d : Dest) → length (ds .entry) ≡ mostDestinations → i < destCount ds → getDest ds i ≡ E.Entry (getD (ds .entry) i d)
 unfolding getDest
 get-known ds i d e h =
     entry-at (registered ds) i d (omega (arith, registered-length ds e)) ∙ ap E.Entry (registered-at ds i d h)
 
-pub get-none : (ds : Destinations) (i : ℕ) → length (ds .entry) ≡ 1024 → destCount ds ≤ i → getDest ds i ≡ E.Nothing
+pub get-none : (ds : Destinations) (i : ℕ) → length (ds .entry) ≡ mostDestinations → destCount ds ≤ i → getDest ds i ≡ E.Nothing
 unfolding getDest
 get-none ds i e h = entry-past (registered ds) i (omega (arith, registered-length ds e))
 
@@ -84,7 +85,7 @@ pub searched-none : (ds : Destinations) (t : Target) → SearchedTo ds t 0
 unfolding findDest findTarget
 searched-none ds t = refl
 
-module _ (ds : Destinations) (t : Target) (i : ℕ) (d : Dest) (e : length (ds .entry) ≡ 1024) (s : SearchedTo ds t i) where
+module _ (ds : Destinations) (t : Target) (i : ℕ) (d : Dest) (e : length (ds .entry) ≡ mostDestinations) (s : SearchedTo ds t i) where
   pub searched-here : i < destCount ds → sameTarget (getD (ds .entry) i d .target) t ≡ true → findDest ds t ≡ D.At i
   searched-here h y =
       s ∙ find-here t (registered ds) i d (omega (arith, registered-length ds e)) (ap (λ (x : Dest). sameTarget (x .target) t) (registered-at ds i d h) ∙ y)

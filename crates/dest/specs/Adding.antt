@@ -2,7 +2,7 @@
 use mathlib.Core.Path.{_≡_, refl}
 use mathlib.Core.Bool.{Bool, true, false, cond, not, _||_}
 use mathlib.Core.List.{List, [], _∷_}
-use Prim.Native.Nat.{ℕ, _+_}
+use Prim.Native.Nat.{ℕ, _+_, _-_}
 use lib.Dec.{eqb, leb}
 use lib.IntN.{pos}
 use lib.ListN.{set}
@@ -77,17 +77,17 @@ code : ℕ → Target → Float → Float → Feed → ℕ
 code n t lo hi f = addCode (holding n) (entry t lo hi f)
 
 -- a target again, before every other row, also in a full registry; the entry past the count does not count
-row9 : (code 2 (Param 7) nan nan (F.Amount 64) ≡ 9) × (code 2 (LfoBus 1 2) zero32 one32 F.Nothing ≡ 9) × (code 1024 (Param 9) one32 zero32 F.Nothing ≡ 9) × (code 2 (Param 9) zero32 one32 F.Nothing ≡ 0) × (code 2 (LfoBus 1 3) zero32 one32 F.Nothing ≡ 0)
+row9 : (code 2 (Param 7) nan nan (F.Amount slots) ≡ 9) × (code 2 (LfoBus 1 2) zero32 one32 F.Nothing ≡ 9) × (code 1024 (Param 9) one32 zero32 F.Nothing ≡ 9) × (code 2 (Param 9) zero32 one32 F.Nothing ≡ 0) × (code 2 (LfoBus 1 3) zero32 one32 F.Nothing ≡ 0)
 unfolding code holding entry addCode badBounds judged registered findTarget findFrom lt isNan
 row9 = (refl, refl, refl, refl, refl)
 
 -- a NaN, min not below max, -0 and +0; infinite bounds are accepted
-row10 : (code 2 (Param 3) nan one32 (F.Amount 64) ≡ 10) × (code 2 (Param 3) zero32 nan F.Nothing ≡ 10) × (code 2 (Param 3) one32 one32 F.Nothing ≡ 10) × (code 2 (Param 3) one32 zero32 F.Nothing ≡ 10) × (code 2 (Param 3) (fin true 0 (pos 0)) zero32 F.Nothing ≡ 10) × (code 2 (Param 3) (inf true) (inf false) F.Nothing ≡ 0) × (code 2 (Param 3) (inf false) (inf false) F.Nothing ≡ 10)
+row10 : (code 2 (Param 3) nan one32 (F.Amount slots) ≡ 10) × (code 2 (Param 3) zero32 nan F.Nothing ≡ 10) × (code 2 (Param 3) one32 one32 F.Nothing ≡ 10) × (code 2 (Param 3) one32 zero32 F.Nothing ≡ 10) × (code 2 (Param 3) (fin true 0 (pos 0)) zero32 F.Nothing ≡ 10) × (code 2 (Param 3) (inf true) (inf false) F.Nothing ≡ 0) × (code 2 (Param 3) (inf false) (inf false) F.Nothing ≡ 10)
 unfolding code holding entry addCode badBounds judged registered findTarget findFrom lt isNan
 row10 = (refl, refl, refl, refl, refl, refl, refl)
 
--- slots 0 to 63; a feed onto a source is accepted, whatever its number
-row11 : (code 2 (Param 3) zero32 one32 (F.Amount 64) ≡ 11) × (code 5000 (Param 3) zero32 one32 (F.Output 64) ≡ 11) × (code 2 (Param 3) zero32 one32 (F.Amount 63) ≡ 0) × (code 2 (Param 3) zero32 one32 (F.Output 63) ≡ 0) × (code 2 (Param 3) zero32 one32 (F.Source 5000) ≡ 0)
+-- every slot, and none after the last; a feed onto a source is accepted, whatever its number
+row11 : (code 2 (Param 3) zero32 one32 (F.Amount slots) ≡ 11) × (code 5000 (Param 3) zero32 one32 (F.Output slots) ≡ 11) × (code 2 (Param 3) zero32 one32 (F.Amount (slots - 1)) ≡ 0) × (code 2 (Param 3) zero32 one32 (F.Output (slots - 1)) ≡ 0) × (code 2 (Param 3) zero32 one32 (F.Source 5000) ≡ 0)
 unfolding code holding entry addCode badBounds judged registered findTarget findFrom lt isNan
 row11 = (refl, refl, refl, refl, refl)
 

@@ -23,13 +23,20 @@ fn refused(code: u8, word: u32) -> u32 {
     256 + code as u32
 }
 
+// the words of the list for a place that is none: the Rust's slots come before them
+const FULL: u32 = 64;
+
+const NO_FREE_LFO: u32 = 65;
+
+const REFUSED: u32 = 66;
+
 // the word of a place
 fn place(p: Place) -> u32 {
     match p {
         Place::At(n) => (n % 0x1_0000_0000) as u32,
-        Place::Full => 64,
-        Place::NoFreeLfo => 65,
-        Place::Refused => 66,
+        Place::Full => FULL,
+        Place::NoFreeLfo => NO_FREE_LFO,
+        Place::Refused => REFUSED,
     }
 }
 

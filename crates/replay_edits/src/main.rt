@@ -12,6 +12,9 @@ use state::Slot;
 // how many differences are printed
 const SHOWN: u64 = 5;
 
+// the most blocks of the list
+const BLOCKS: usize = 64;
+
 // How far the list is: the port's matrix, the Rust's by the list, the answers so far and how many of them differ.
 struct Tally {
     ours: Matrix,
@@ -121,11 +124,11 @@ fn next_block(fd: i32, t: Tally) -> Tally {
     steps(t, &block[..n])
 }
 
-// A list of at most 64 blocks.
+// A list of at most so many blocks.
 fn replay(fd: i32) -> Tally {
     let mut t = start();
     let mut k = 0usize;
-    while k < 64 {
+    while k < BLOCKS {
         let next = next_block(fd, t);
         t = next;
         k += 1usize;

@@ -1,6 +1,8 @@
 // The lines of a list, one by one: each holds what goes in and the answer to be had, as hexadecimal words of one width.
-ghost use Prim.Native.Nat.{_+_, _≤_, _<_, _^_};
+ghost use Prim.Native.Nat.{_+_, _*_, _≤_, _<_, _^_};
 ghost use lib.ListN.{length};
+ghost use Rattle.curve_table.specs.Table.{points};
+use curve_table::POINTS;
 
 // What a list's lines are answers to.
 pub enum Answers {
@@ -55,14 +57,14 @@ pub fn numbers(s: &[u8], out: &mut [f32]) {
 }
 
 fn lookup_at(tables: &[f32], t: u32, x: f32) -> f32
-    requires { ⌜ 1539 ≤ length (now tables) ⌝ }
+    requires { ⌜ 3 * points ≤ length (now tables) ⌝ }
 {
-    let a = (t % 3) as usize * 513;
-    curve_table::lookup(&tables[a..a + 513], x)
+    let a = (t % 3) as usize * POINTS;
+    curve_table::lookup(&tables[a..a + POINTS], x)
 }
 
 fn lookup_differs(tables: &[f32], s: &[u8], at: usize) -> bool
-    requires { ⌜ (1539 ≤ length (now tables)) × (at + 69 < 2 ^ 64) ⌝ }
+    requires { ⌜ (3 * points ≤ length (now tables)) × (at + 69 < 2 ^ 64) ⌝ }
 {
     let found = lookup_at(tables, word(s, at), number(s, at + 9));
     !number::are_same(found, number(s, at + 18))
@@ -108,7 +110,7 @@ fn draw_differs(s: &[u8], at: usize) -> bool
 }
 
 fn differs(list: Answers, tables: &[f32], s: &[u8], at: usize) -> bool
-    requires { ⌜ (1539 ≤ length (now tables)) × (at + 69 < 2 ^ 64) ⌝ }
+    requires { ⌜ (3 * points ≤ length (now tables)) × (at + 69 < 2 ^ 64) ⌝ }
 {
     match list {
         Answers::Lookup => lookup_differs(tables, s, at),
@@ -126,7 +128,7 @@ fn one_if(b: bool) -> usize
 
 // how many lines of a list differ from what the code answers
 pub fn count(list: Answers, tables: &[f32], s: &[u8]) -> usize
-    requires { ⌜ 1539 ≤ length (now tables) ⌝ }
+    requires { ⌜ 3 * points ≤ length (now tables) ⌝ }
     ensures { λ r. ⌜ r ≤ length (now (s .entry)) ⌝ }
 {
     let w = width(list);

@@ -1,14 +1,22 @@
 // Replays stored answers for the leaves: table lookups, slew rates and slew steps as the Rust gives them, and draws
 // as xorshift64* in C gives them. Prints, for each list, how many lines it has and how many of them differ.
 ghost use mathlib.Core.Path.{_≡_};
-ghost use Prim.Native.Nat.{_≤_};
+ghost use Prim.Native.Nat.{_*_, _≤_};
 ghost use lib.ListN.{length};
+ghost use Rattle.curve_table.specs.Table.{points};
 ghost use Rattle.io.specs.Counts.{Counts};
 
 mod lines;
 
+use curve_table::POINTS;
 use libc::STDOUT_FILENO;
 use lines::Answers;
+
+// the numbers of the three tables
+const TABLES: usize = 3 * POINTS;
+
+// the most blocks of a list
+const BLOCKS: usize = 64;
 
 // the bytes of a file that fit the buffer; none where it cannot be read
 fn load(path: &[u8], buf: &mut [u8]) -> usize
@@ -32,11 +40,11 @@ fn print(name: &[u8], lines: usize, differ: usize) {
     io::write_all(STDOUT_FILENO, b" differ\n");
 }
 
-fn tables() -> [f32; 1539]
-    ensures { λ r. ⌜ 1539 ≡ length r ⌝ }
+fn tables() -> [f32; TABLES]
+    ensures { λ r. ⌜ 3 * points ≡ length r ⌝ }
 {
     let mut text = [0u8; 65536];
-    let mut out = [0.0f32; 1539];
+    let mut out = [0.0f32; TABLES];
     let n = load(b"tables.txt", &mut text);
     lines::numbers(&text[..n], &mut out);
     out
@@ -50,7 +58,7 @@ struct Tally {
 
 // The next block of a list. A block holds whole lines of every width.
 fn next_block(fd: i32, list: Answers, tables: &[f32]) -> Tally
-    requires { ⌜ 1539 ≤ length (now tables) ⌝ }
+    requires { ⌜ 3 * points ≤ length (now tables) ⌝ }
     ensures { λ r. ⌜ (r .bytes ≤ 65205) × (r .differ ≤ 65205) ⌝ }
 {
     let mut block = [0u8; 65205];
@@ -61,9 +69,9 @@ fn next_block(fd: i32, list: Answers, tables: &[f32]) -> Tally
     }
 }
 
-// A list of at most 64 blocks.
+// A list of at most so many blocks.
 fn replay(list: Answers, tables: &[f32], path: &[u8], name: &[u8])
-    requires { ⌜ 1539 ≤ length (now tables) ⌝ }
+    requires { ⌜ 3 * points ≤ length (now tables) ⌝ }
 {
     let fd = os::open_read(path);
     if fd < 0 {
@@ -74,7 +82,7 @@ fn replay(list: Answers, tables: &[f32], path: &[u8], name: &[u8])
     let mut bytes = 0usize;
     let mut differ = 0usize;
     let mut k = 0usize;
-    while k < 64 {
+    while k < BLOCKS {
         let block = next_block(fd, list, tables);
         bytes += block.bytes;
         differ += block.differ;

@@ -43,7 +43,7 @@ longer k b h =
 
 put-one : (k : List ℕ) (b : ℕ) → length k < mostKeyBytes → putByte (textOf k) b ≡ textOf (k ++ (b ∷ []))
 unfolding putByte
-put-one k b h = rw (lt-ltb (length k) 32 h, longer k b h, length-append)
+put-one k b h = rw (lt-ltb (length k) mostKeyBytes h, longer k b h, length-append)
 
 pub put-all : (k key : List ℕ) → length k + length key ≤ mostKeyBytes → putAll (textOf k) key ≡ textOf (k ++ key)
 unfolding putAll

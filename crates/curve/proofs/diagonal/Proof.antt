@@ -9,18 +9,18 @@ use lib.Dec.{le→leb}
 use lib.ListN.{length, getD, set, length-set}
 use lib.Seq.{getD-set-same, getD-set-other, ext-getD}
 use lib.Ieee.{Float, nan, inFloat, ofBits}
-use Rattle.curve_table.specs.Table.{diagonalAt}
+use Rattle.curve_table.specs.Table.{diagonalAt, points}
 use Rattle.curve.specs.CurveCalls.{diagonalTable}
 use Rattle.curve.proofs.Laws.{length-diagonal, diagonal-at}
 use Rattle.curve.proofs.diagonal.Statement.{statement}
 use Rattle.curve.proofs.diagonal.Tie as tie
 
 abbrev Inv-loop : tie.InvT-loop
-Inv-loop points₀ i₀ points i =
-    (i ≤ 513) × (length points ≡ 513) × ((k : ℕ) → k < i → getD points k nan ≡ diagonalAt k)
+Inv-loop ps₀ i₀ ps i =
+    (i ≤ points) × (length ps ≡ points) × ((k : ℕ) → k < i → getD ps k nan ≡ diagonalAt k)
 
 abbrev μ-loop : tie.MeasureT-loop
-μ-loop points₀ i₀ points i = 513 - i
+μ-loop ps₀ i₀ ps i = points - i
 
 -- a store at i of what stands there in the diagonal
 stored : (l : List Float) (i : ℕ) → i < length l → ((k : ℕ) → k < i → getD l k nan ≡ diagonalAt k) → (k : ℕ) → k < i + 1 → getD (set l i (diagonalAt i)) k nan ≡ diagonalAt k

@@ -5,6 +5,7 @@ use Prim.Native.Nat.{_≤_, _-_}
 use native.Mathlib.Omega.{arith}
 use borrow.Author.Needs.{needs}
 use lib.ListN.{length}
+use Rattle.config.specs.Sizes.{mostDestinations}
 use Rattle.dest.proofs.Search.{length-mapped, unread, SearchedTo, searched-none, searched-here, searched-next, searched-all}
 use Rattle.dest.proofs.Replies.{find-said}
 use Rattle.dest.proofs.find.Statement.{statement}
@@ -35,7 +36,7 @@ returns : tie.Need-returns Inv-loop μ-loop
 returns c =
     let l = c .before .before .before .before .loop in
     let ds = c .before .before .before .before .before .before .args .t1 in
-    let e : length (ds .entry) ≡ 1024 = search (needs, length-mapped) in
+    let e : length (ds .entry) ≡ mostDestinations = search (needs, length-mapped) in
     find-said ds _ _ (sym (searched-here ds _ (l .i) unread e (l .inv .1) (omega arith) (sym (c .before .same-target .ensures) ∙ c .if1 .taken)))
 
 add-i : tie.Need-add-i Inv-loop μ-loop
@@ -48,14 +49,14 @@ loop-again : tie.Need-loop-again Inv-loop μ-loop
 loop-again c =
     let l = c .before .before .before .before .loop in
     let ds = c .before .before .before .before .before .before .args .t1 in
-    let e : length (ds .entry) ≡ 1024 = search (needs, length-mapped) in
+    let e : length (ds .entry) ≡ mostDestinations = search (needs, length-mapped) in
     (search needs, searched-next ds _ (l .i) unread e (l .inv .1) (omega arith) (sym (c .before .same-target .ensures) ∙ c .if1 .left))
 
 returns-2 : tie.Need-returns-2 Inv-loop μ-loop
 returns-2 c =
     let l = c .before .loop in
     let ds = c .before .before .before .args .t1 in
-    let e : length (ds .entry) ≡ 1024 = search (needs, length-mapped) in
+    let e : length (ds .entry) ≡ mostDestinations = search (needs, length-mapped) in
     find-said ds _ _ (sym (searched-all ds _ (l .i) unread e (l .inv .1) (omega arith)))
 
 pub find-spec : {M : Type 1} → statement M

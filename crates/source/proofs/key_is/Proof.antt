@@ -7,7 +7,7 @@ use borrow.Author.Needs.{needs}
 use borrow.Author.Tests.{eq-eqb, ne-eqb}
 use lib.ListN.{length, getD, take, drop}
 use lib.Seq.{length-take-le}
-use Rattle.source.specs.Keys.{keyLength}
+use Rattle.source.specs.Keys.{keyLength, mostKeyBytes}
 use Rattle.source_key.specs.Bytes.{sameBytes}
 use Rattle.source.proofs.Keys.{same-turn, key-longer, key-by-bytes}
 use Rattle.source_key.proofs.Bytes.{same-past}
@@ -29,13 +29,13 @@ key-len-requires c κs = search needs
 returns : tie.Need-returns Inv-loop μ-loop
 returns c =
     let a = c .before .before .before .before .args in
-    let long : length (a .source .key) ≡ 32 = search needs in
+    let long : length (a .source .key) ≡ mostKeyBytes = search needs in
     sym (key-longer (a .key .now) (a .source) long (λ h. c .if1 .taken (c .before .key-len .ensures ∙ h)))
 
 loop-holds : tie.Need-loop-holds Inv-loop μ-loop
 loop-holds c =
     let a = c .before .before .before .before .args in
-    let long : length (a .source .key) ≡ 32 = search needs in
+    let long : length (a .source .key) ≡ mostKeyBytes = search needs in
     (search needs, omega (arith, c .before .key-len .ensures), refl)
 
 shared-slice-read-if2 : tie.Need-shared-slice-read-if2 Inv-loop μ-loop
@@ -44,7 +44,7 @@ shared-slice-read-if2 c = search needs
 array-read-if2 : tie.Need-array-read-if2 Inv-loop μ-loop
 array-read-if2 c =
     let a = c .before .before .before .before .before .before .before .args in
-    let long : length (a .source .key) ≡ 32 = search needs in
+    let long : length (a .source .key) ≡ mostKeyBytes = search needs in
     omega arith
 
 returns-2 : tie.Need-returns-2 Inv-loop μ-loop

@@ -4,14 +4,15 @@ use Prim.Native.Nat.{_-_, _≤_}
 use native.Mathlib.Omega.{arith}
 use borrow.Author.Needs.{needs}
 use lib.ListN.{length}
+use Rattle.config.specs.Sizes.{slots}
 use Rattle.replay_edits.proofs.slots.same_slots.Statement.{statement}
 use Rattle.replay_edits.proofs.slots.same_slots.Tie as tie
 
 abbrev Inv-loop : tie.InvT-loop
-Inv-loop a b i₀ i = (i ≤ 64) × (length a ≡ 64) × (length b ≡ 64)
+Inv-loop a b i₀ i = (i ≤ slots) × (length a ≡ slots) × (length b ≡ slots)
 
 abbrev μ-loop : tie.MeasureT-loop
-μ-loop a b i₀ i = 64 - i
+μ-loop a b i₀ i = slots - i
 
 loop-holds : tie.Need-loop-holds Inv-loop μ-loop
 loop-holds c = search needs
