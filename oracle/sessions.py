@@ -18,6 +18,15 @@ ORACLE = os.path.join(HERE, "target/release/oracle")
 HEAD = open(os.path.join(HERE, "sessions.head"), encoding="utf-8").read()
 
 
+def size(crate, name):
+    """a size of the port, as its code has it"""
+    path = os.path.join(HERE, "..", "crates", crate, "src", "lib.rt")
+    return int(re.search(r"pub const %s: usize = (\d+);" % name, open(path, encoding="utf-8").read())[1])
+
+
+SLOTS, POINTS = size("config", "SLOTS"), size("curve_table", "POINTS")
+
+
 class Skip(Exception):
     pass
 
@@ -88,13 +97,13 @@ class Session(P.Session):
 
     def tables_of(self):
         places = []
-        for n in range(64):
+        for n in range(SLOTS):
             f = self.slots.get(n, {})
             for p, key in enumerate(("sc", "ac")):
                 c = f.get(key, "lin")
                 if c != "lin":
                     places.append((2 * n + p, c.split(":")[0]))
-        for p, t in zip((128, 129), self.note[:2]):
+        for p, t in zip((2 * SLOTS, 2 * SLOTS + 1), self.note[:2]):
             if t != "diag":
                 places.append((p, t))
         if not places:
@@ -102,12 +111,12 @@ class Session(P.Session):
         out, at = [], 0
         for p, t in places:
             if p > at:
-                out.append("replicate %d zero32" % ((p - at) * 513))
+                out.append("replicate %d zero32" % ((p - at) * POINTS))
             if t != "diag" and t not in self.tables:
                 raise Skip("table")
             out.append("tabulated diagonalAt" if t == "diag" else self.tables[t])
             at = p + 1
-        out.append("replicate %d zero32" % ((130 - at) * 513))
+        out.append("replicate %d zero32" % ((2 * SLOTS + 2 - at) * POINTS))
         return "(" + " ++ (".join(out) + ")" * len(out)
 
     def signals(self):
