@@ -1,7 +1,9 @@
 // What a scenario is made of, by rules: sources, destinations, a matrix and signals.
 use config::Config;
+use config::DESTINATIONS;
 use config::FRAMES;
 use config::SLOTS;
+use config::SOURCES;
 use config::VOICES;
 use curve_table::Curve;
 use matrix::Edited;
@@ -21,8 +23,11 @@ use state::Sources;
 use state::Target;
 use state::Wiring;
 
+// the signals of a scenario, as many as the benchmark of the Rust has
+pub const SIGNALS: usize = 64;
+
 // How many routes into how many destinations, which are at audio rate or at control rate; whether routes have curves, slews and an
-// aux, and destinations feed; voices there are, and voices that sound; frames of a block, and buffers that the 64 signals share; which
+// aux, and destinations feed; voices there are, and voices that sound; frames of a block, and buffers that the signals share; which
 // call is made (1 `set_base`, 2 `set_held`, 3 `note_on`), how often, and how many blocks then.
 pub struct Scene {
     pub slots: usize,
@@ -91,7 +96,7 @@ pub fn of_numbers(xs: &[usize]) -> Scene {
     let voices = entry(xs, 4, VOICES);
     let active = entry(xs, 5, VOICES);
     let frames = entry(xs, 6, FRAMES);
-    let buffers = entry(xs, 7, SLOTS);
+    let buffers = entry(xs, 7, SIGNALS);
     let call = entry(xs, 8, 3);
     let calls = entry(xs, 9, 4294967296);
     let blocks = entry(xs, 10, 4294967296);
@@ -118,17 +123,17 @@ fn config_of(s: Scene) -> Config {
     }
 }
 
-// ---- sources: 64 signals per voice; the last four are held in a rich scenario
+// ---- sources: signals per voice; the last four are held in a rich scenario
 
 fn kind_of(i: usize, rich: bool) -> Kind {
-    if rich && 60 <= i {
+    if rich && SIGNALS - 4 <= i {
         return Kind::Held;
     }
     Kind::Signal
 }
 
 fn with_source(s: Sources, i: usize, rich: bool) -> Named {
-    let key = [(i % 128) as u8];
+    let key = [(i % SOURCES) as u8];
     let a = source::add(s, &key, kind_of(i, rich), Scope::Voice, Range::Unipolar);
     let code = a.code;
     let sources = a.sources;
@@ -139,7 +144,7 @@ fn sources_of(rich: bool) -> Named {
     let mut s = source::new();
     let mut code = 0u8;
     let mut i = 0usize;
-    while i < SLOTS {
+    while i < SIGNALS {
         let a = with_source(s, i, rich);
         code = first(code, a.code);
         let next = a.sources;
@@ -180,7 +185,7 @@ fn feed_of(d: usize, rich: bool) -> Feed {
 }
 
 fn with_dest(s: Destinations, d: usize, audio: bool, rich: bool) -> Reached {
-    let target = Target::Param((d % 1024) as u32);
+    let target = Target::Param((d % DESTINATIONS) as u32);
     let a = dest::add(
         s,
         target,
@@ -222,7 +227,7 @@ fn target_of(n: usize, dests: usize) -> Target {
     if dests == 0 {
         return Target::Param(0);
     }
-    Target::Param((n % dests % 1024) as u32)
+    Target::Param((n % dests % DESTINATIONS) as u32)
 }
 
 fn plain_slot(n: usize, dests: usize) -> Slot {
@@ -251,7 +256,7 @@ fn rich_slot(n: usize, dests: usize) -> Slot {
     let polarity = polarity_of(n);
     let rise = 0.001 + x / 6400.0;
     let output = 0.5 + x / 128.0;
-    let aux = (n % 64 + 7) % 64;
+    let aux = (n % SIGNALS + 7) % SIGNALS;
     Slot {
         source: Pick::Source(n),
         source_curve: Curve::Table { rise, fall: 0.01 },
@@ -332,7 +337,7 @@ pub fn signals_of(s: Scene) -> Bound {
     let mut bound = engine::no_signals();
     let mut code = 0u8;
     let mut i = 0usize;
-    while i < SLOTS {
+    while i < SIGNALS {
         let b = engine::bind(bound, i, buffer_at(i, buffers, len), len, voices);
         code = first(code, b.code);
         let next = b.signals;

@@ -2,8 +2,10 @@
 use crate::hash;
 use crate::scene;
 use crate::scene::Gathered;
+use crate::scene::SIGNALS;
 use crate::scene::Scene;
 use crate::scene::first;
+use config::VOICES;
 use engine::Done;
 use engine::Engine;
 use engine::Made;
@@ -109,7 +111,7 @@ fn note_ons(from: Done, calls: usize, held: &mut [f32], tables: &[f32]) -> Done 
     let mut e = from.engine;
     let mut i = 0usize;
     while i < calls {
-        let d = e.note_on(held, tables, i % 64, NoteOn::new(60.0, 1.0));
+        let d = e.note_on(held, tables, i % VOICES, NoteOn::new(60.0, 1.0));
         code = first(code, d.code);
         let next = d.engine;
         e = next;
@@ -124,7 +126,7 @@ fn set_bases(from: Done, calls: usize, bases: &mut [f32], samples: &[f32]) -> Do
     let mut e = from.engine;
     let mut i = 0usize;
     while i < calls {
-        let d = e.set_base(bases, i % 64, list::read(samples, i, 0.0));
+        let d = e.set_base(bases, i % SIGNALS, list::read(samples, i, 0.0));
         code = first(code, d.code);
         let next = d.engine;
         e = next;
@@ -145,7 +147,7 @@ fn set_helds(
     let mut e = from.engine;
     let mut i = 0usize;
     while i < calls {
-        let d = e.set_held(held, globals, i % 64, list::read(samples, i, 0.0));
+        let d = e.set_held(held, globals, i % SIGNALS, list::read(samples, i, 0.0));
         code = first(code, d.code);
         let next = d.engine;
         e = next;

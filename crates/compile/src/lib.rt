@@ -170,7 +170,7 @@ fn outputs(slot: [Slot; SLOTS]) -> [f32; SLOTS]
     out
 }
 
-// all 64 amounts and outputs
+// every slot's amount and output
 fn gains(slot: [Slot; SLOTS]) -> Gains
     ensures { λ r. ⌜ r ≡ gainsOf slot ⌝ }
 {

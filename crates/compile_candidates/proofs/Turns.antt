@@ -1,4 +1,4 @@
--- The loops over the 64 slots: what stands after n turns, and after one more. Assumes nothing.
+-- The loops over the slots: what stands after n turns, and after one more. Assumes nothing.
 use mathlib.Core.Path.{_≡_, refl, sym, ap, _∙_}
 use mathlib.Core.List.{List, [], _∷_, _++_, append-nil}
 use Prim.Native.Nat.{ℕ, _+_, _≤_, _<_}

@@ -3,12 +3,14 @@
 ghost use Prim.Native.Nat.{_≤_};
 ghost use lib.ListN.{length};
 use config::Config;
+use config::SLOTS;
 use curve_table::Curve;
 use curve_table::POINTS;
 use engine::Engine;
 use libc::STDOUT_FILENO;
 use matrix::NoteSlot;
 use matrix::SortBy;
+use slots_tables::KEY_PLACE;
 use slots_tables::TABLES;
 use state::Aim;
 use state::Matrix;
@@ -29,9 +31,9 @@ const INFINITE: u32 = 0x7F80_0000;
 const NOT_A_NUMBER: u32 = 0x7FC0_0000;
 
 // the last number of the velocity curve's table, and of the key curve's
-const VELOCITY_END: usize = 66_176;
+const VELOCITY_END: usize = KEY_PLACE * POINTS - 1;
 
-const KEY_END: usize = 66_689;
+const KEY_END: usize = TABLES - 1;
 
 fn say(what: &[u8], code: u8) {
     io::write_all(STDOUT_FILENO, what);
@@ -65,7 +67,7 @@ fn last_slot(amount: u32, output: u32, rise: u32, fall: u32) -> Matrix {
         bypass: true,
     };
     let mut next = matrix::new();
-    next.slot[63] = slot;
+    next.slot[SLOTS - 1] = slot;
     next
 }
 
@@ -175,8 +177,8 @@ fn program(voices: usize, amount: u32, output: u32) -> Program {
     let made = program::empty(config(voices));
     let mut next = made.program;
     let mut gains = next.gains;
-    gains.amount[63] = hex::of_bits(amount);
-    gains.output[63] = hex::of_bits(output);
+    gains.amount[SLOTS - 1] = hex::of_bits(amount);
+    gains.output[SLOTS - 1] = hex::of_bits(output);
     next.gains = gains;
     next
 }

@@ -36,7 +36,7 @@ use Rattle.matrix.specs.declared.Removed.{Removed}
 
 -- ---- rows (document 01, Numbers that a call hands back)
 
--- slot not below 64
+-- row 5: slot not below the slots
 abbrev pub slotRow : ℕ → Row
 slotRow n = 5 when leb slots n
 

@@ -71,7 +71,7 @@ pub record Memories : Type 0 where
   pub audio : List Float
   pub tables : List Float
 
--- row 6: amounts, outputs and seconds of all 64 slots, and the numbers of named tables; a sample rate that is not finite is the configuration's
+-- row 6: amounts, outputs and seconds of every slot, and the numbers of named tables; a sample rate that is not finite is the configuration's
 abbrev pub numbersAllowed : Matrix → List Float → Bool
 numbersAllowed m tables = allFinite (m .slot) && namedAllowed m tables
 

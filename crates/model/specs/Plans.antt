@@ -72,7 +72,7 @@ allRoutes w =
 
 -- ---- THE PROGRAM
 
--- all 64 amounts and outputs, "compiling clamps nothing" (program.rs 521-526)
+-- every slot's amount and output, "compiling clamps nothing" (program.rs 521-526)
 abbrev pub gainsOf : List Slot → Gains
 gainsOf ss = record { amount = map (λ s. s .amount) ss; output = map (λ s. s .output) ss }
 
