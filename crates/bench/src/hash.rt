@@ -1,5 +1,6 @@
-// The hash of an engine's outputs: FNV-1a of 64 bits over the bits of each number, least significant byte first. Destinations come in
-// order; of one at audio rate every frame, of one at control rate the end of every chunk; of each of these every voice.
+// The hash of an engine's outputs: FNV-1a of 64 bits over the bits of each number, least significant byte first.
+// Destinations come in order; of one at audio rate every frame, of one at control rate the end of every chunk; of each
+// of these every voice.
 use engine::Engine;
 
 // the hash after a byte

@@ -3,9 +3,10 @@ mod hash;
 mod scene;
 mod work;
 
-// Makes an engine by a scenario's numbers on lent memories, makes the scenario's calls, then its blocks, and answers the first refusal, or 0.
-// Where `hash` has a place, the hash of the outputs is left there. `numbers` are those of scene::Scene in order; a number that is
-// missing is 0, and one that is too large is its limit. `curves` are the tables of the matrix, for a rich scenario.
+// Makes an engine by a scenario's numbers on lent memories, makes the scenario's calls, then its blocks, and answers
+// the first refusal, or 0. Where `hash` has a place, the hash of the outputs is left there. `numbers` are those of
+// scene::Scene in order; a number that is missing is 0, and one that is too large is its limit. `curves` are the tables
+// of the matrix, for a rich scenario.
 #[no_mangle]
 pub extern "C" fn tinuhawe_bench(
     numbers: &[usize],

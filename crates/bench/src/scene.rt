@@ -26,9 +26,9 @@ use state::Wiring;
 // the signals of a scenario, as many as the benchmark of the Rust has
 pub const SIGNALS: usize = 64;
 
-// How many routes into how many destinations, which are at audio rate or at control rate; whether routes have curves, slews and an
-// aux, and destinations feed; voices there are, and voices that sound; frames of a block, and buffers that the signals share; which
-// call is made (1 `set_base`, 2 `set_held`, 3 `note_on`), how often, and how many blocks then.
+// How many routes into how many destinations, which are at audio rate or at control rate; whether routes have curves,
+// slews and an aux, and destinations feed; voices there are, and voices that sound; frames of a block, and buffers that
+// the signals share; which call is made (1 `set_base`, 2 `set_held`, 3 `note_on`), how often, and how many blocks then.
 pub struct Scene {
     pub slots: usize,
     pub dests: usize,
@@ -163,8 +163,8 @@ fn rate_of(audio: bool) -> Rate {
     Rate::Control
 }
 
-// in a rich scenario 12 feeds a source that is read on the way to 14, 14 the output of a slot of 6, 15 a source that is read on
-// the way to 13, and 13 the amount of a slot of 5
+// in a rich scenario 12 feeds a source that is read on the way to 14, 14 the output of a slot of 6, 15 a source that is
+// read on the way to 13, and 13 the amount of a slot of 5
 fn feed_of(d: usize, rich: bool) -> Feed {
     if !rich {
         return Feed::Nothing;

@@ -1,4 +1,5 @@
-// A program from what it is compiled from (document 01, Plan and route; program.rs 296-558). The definitions are in model's specs/Plans.
+// A program from what it is compiled from (document 01, Plan and route; program.rs 296-558). The definitions are in
+// model's specs/Plans.
 ghost use mathlib.Core.Path.{_≡_};
 ghost use mathlib.Core.List.{[], map};
 ghost use Prim.Native.Nat.{_≤_};
@@ -56,7 +57,8 @@ fn plan_of(
     first: usize,
     count: usize,
 ) -> Plan
-    ensures { λ r. ⌜ r ≡ planBy d entry (counted sources (entry .feed)) (audioIn sources (candidatesIn candidates) d entry) first count ⌝ }
+    ensures { λ r. ⌜ r ≡ planBy d entry (counted sources (entry .feed))
+        (audioIn sources (candidatesIn candidates) d entry) first count ⌝ }
 {
     let feed = entry.feed;
     let base = compile_feeds::counted(sources, feed);
@@ -72,7 +74,8 @@ fn plans(
     readers: Readers,
     order: Numbers,
 ) -> Plans
-    ensures { λ r. ⌜ r ≡ plansOf (plansIn sources dests (candidatesIn candidates) (readersIn readers) 0 (numbersIn order)) ⌝ }
+    ensures { λ r. ⌜ r ≡ plansOf (plansIn sources dests (candidatesIn candidates) (readersIn readers) 0
+        (numbersIn order)) ⌝ }
 {
     let n = state_filled::held(order.count);
     let mut out = state_filled::no_plans();
@@ -103,7 +106,9 @@ fn with_routes(
     order: Numbers,
     d: u16,
 ) -> Routes
-    ensures { λ r. ⌜ r ≡ routesAdded list (routesIn rate sources (numbersIn order) slot (isVoice (destAt dests d .scope)) (readersInto d (readersIn readers))) ⌝ }
+    ensures { λ r. ⌜ r ≡ routesAdded list
+        (routesIn rate sources (numbersIn order) slot (isVoice (destAt dests d .scope))
+        (readersInto d (readersIn readers))) ⌝ }
 {
     let e = state_registry::dest_at(dests, d as usize);
     let scope = e.scope;
@@ -128,7 +133,8 @@ fn routes(
     readers: Readers,
     order: Numbers,
 ) -> Routes
-    ensures { λ r. ⌜ r ≡ routesAdded (routesOf []) (routesOver rate sources dests slot (readersIn readers) (numbersIn order) (numbersIn order)) ⌝ }
+    ensures { λ r. ⌜ r ≡ routesAdded (routesOf [])
+        (routesOver rate sources dests slot (readersIn readers) (numbersIn order) (numbersIn order)) ⌝ }
 {
     let n = state_filled::held(order.count);
     let mut out = state_filled::no_routes();

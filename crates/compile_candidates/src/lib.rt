@@ -1,4 +1,5 @@
-// The slots that become routes, and those that are left out (document 01, Slot; program.rs 560-591). The definitions are in model's specs/Wiring.
+// The slots that become routes, and those that are left out (document 01, Slot; program.rs 560-591). The definitions
+// are in model's specs/Wiring.
 ghost use mathlib.Core.Path.{_≡_};
 ghost use mathlib.Core.Bool.{true};
 ghost use Prim.Native.Nat.{_<_};

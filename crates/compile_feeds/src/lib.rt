@@ -1,5 +1,5 @@
-// Which destinations are in use, what they feed, and who is read by which route (document 01, Plan and route; program.rs 296-357). The definitions
-// are in model's specs/Feeds.
+// Which destinations are in use, what they feed, and who is read by which route (document 01, Plan and route;
+// program.rs 296-357). The definitions are in model's specs/Feeds.
 ghost use mathlib.Core.Path.{_≡_};
 ghost use mathlib.Core.Bool.{cond, _&&_, _||_};
 ghost use mathlib.Core.List.{map};
@@ -8,7 +8,9 @@ ghost use Rattle.state.specs.declared.Feed.the-variants as F;
 ghost use Rattle.state.specs.declared.Feeder.the-variants as E;
 ghost use Rattle.state.specs.Registry.{sourceAt};
 ghost use Rattle.state_filled.specs.Filled.{candidatesIn, usedDestsOf, usedDestsIn, readersOf};
-ghost use Rattle.model.specs.Feeds.{named, isHeld, isVoice, heldGlobal, counted, sameThing, isAudioKind, audioAux, hearsAudio, audioRate, unlessFed, audioIn, usedAs, usedIn, feederIn, auxThing, readerBy};
+ghost use Rattle.model.specs.Feeds.{named, isHeld, isVoice, heldGlobal, counted, sameThing, isAudioKind, audioAux};
+ghost use Rattle.model.specs.Feeds.{hearsAudio, audioRate, unlessFed, audioIn, usedAs, usedIn, feederIn, auxThing};
+ghost use Rattle.model.specs.Feeds.{readerBy};
 ghost use Rattle.compile_feeds.specs.Added.{usedAdded};
 ghost use Rattle.compile_feeds.specs.Feeders.{feeds, lastOf};
 use config::SLOTS;
@@ -152,7 +154,8 @@ fn audio_aux(sources: Sources, aux: AuxSource) -> bool
 
 // whether the candidate is d's and has an Audio source or aux
 fn hears(sources: Sources, c: Candidate, d: u16) -> bool
-    ensures { λ r. ⌜ r ≡ eqb (c .dest) d && (isAudioKind (sourceAt sources (c .source) .kind) || audioAux sources (c .aux)) ⌝ }
+    ensures { λ r. ⌜ r ≡ eqb (c .dest) d
+        && (isAudioKind (sourceAt sources (c .source) .kind) || audioAux sources (c .aux)) ⌝ }
 {
     if c.dest != d {
         return false;

@@ -36,7 +36,9 @@ feedsOther rs a b = not (eqb a b) && anyReads a b rs
 
 -- the mark of a pair of places, row by row: whether what stands at the one is read by what stands at the other
 unfoldable pub markAt : List Reader → List ℕ → ℕ → Bool
-markAt rs l p = ltb (p / slots) (length l) && (ltb (p % slots) (length l) && feedsOther rs (getD l (p / slots) 0) (getD l (p % slots) 0))
+markAt rs l p =
+    ltb (p / slots) (length l) &&
+    (ltb (p % slots) (length l) && feedsOther rs (getD l (p / slots) 0) (getD l (p % slots) 0))
 
 -- numbers put behind those in the array, one after the other
 abbrev pub numbersAdded : Numbers → List ℕ → Numbers
@@ -58,7 +60,14 @@ abbrev destination : ℕ → Bool → Used
 destination d audio = record { dest = d; voice = false; audio = audio; feed = B.Set }
 
 abbrev readerOf : ℕ → ℕ → Reader
-readerOf d a = record { candidate = record { slot = 0; source = 0; aux = U.Nothing; dest = d }; source = E.Dest a false; aux = E.Nothing; amount = E.Nothing; output = E.Nothing }
+readerOf d a =
+    record {
+      candidate = record { slot = 0; source = 0; aux = U.Nothing; dest = d };
+      source = E.Dest a false;
+      aux = E.Nothing;
+      amount = E.Nothing;
+      output = E.Nothing;
+    }
 
 abbrev three : List Used
 three = destination 5 false ∷ destination 6 true ∷ destination 7 false ∷ []

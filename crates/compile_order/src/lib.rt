@@ -1,4 +1,5 @@
-// The order of plans (document 01, Plan and route; program.rs 350-372). The definitions are in model's specs/Feeds and, over lists in arrays, in specs/Marks.
+// The order of plans (document 01, Plan and route; program.rs 350-372). The definitions are in model's specs/Feeds and,
+// over lists in arrays, in specs/Marks.
 ghost use mathlib.Core.Path.{_≡_};
 ghost use mathlib.Core.Bool.{false, _&&_};
 ghost use mathlib.Core.List.{map};
@@ -9,7 +10,8 @@ ghost use Rattle.list.specs.Fill.{fill};
 ghost use Rattle.feed.specs.Marks.{pairs};
 ghost use Rattle.state_filled.specs.Filled.{usedDestsIn, readersIn, numbersOf, numbersIn};
 ghost use Rattle.model.specs.Feeds.{isIt, isAmong, anyReads};
-ghost use Rattle.compile_order.specs.Marks.{isRated, ratedAs, ratedAdded, feedsOther, markAt, numbersAdded, planOrderIn};
+ghost use Rattle.compile_order.specs.Marks.{isRated, ratedAs, ratedAdded, feedsOther, markAt, numbersAdded};
+ghost use Rattle.compile_order.specs.Marks.{planOrderIn};
 use config::SLOTS;
 use feed::Order;
 use feed::PAIRS;

@@ -52,6 +52,7 @@ module _ (a : Routes) (rate : Float) (ss : Sources) (os : List ℕ) (sl : List S
   unfolding routeAdded into3
   not-into-5 = refl
 
-  with-its-slot : routeAdded a rate ss os sl true 3 into3 ≡ withRoute a (routeIn rate ss os (getD sl 7 noSlot) true into3)
+  with-its-slot : routeAdded a rate ss os sl true 3 into3
+      ≡ withRoute a (routeIn rate ss os (getD sl 7 noSlot) true into3)
   unfolding routeAdded into3
   with-its-slot = refl

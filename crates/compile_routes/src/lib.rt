@@ -1,4 +1,5 @@
-// The routes of a program (document 01, Plan and route; program.rs 409-519). The definitions are in model's specs/Routes and specs/Plans.
+// The routes of a program (document 01, Plan and route; program.rs 409-519). The definitions are in model's
+// specs/Routes and specs/Plans.
 ghost use mathlib.Core.Path.{_≡_};
 ghost use mathlib.Core.Bool.{not, _&&_, _||_};
 ghost use Prim.Native.Nat.{_≤_};
@@ -8,7 +9,9 @@ ghost use Rattle.config.specs.Sizes.{slots};
 ghost use Rattle.feed.specs.Numbers.{indexOf};
 ghost use Rattle.state_filled.specs.Filled.{numbersIn, readersIn};
 ghost use Rattle.model.specs.Feeds.{isVoice};
-ghost use Rattle.model.specs.Routes.{linked, voiceGain, liveGain, unfedRead, readBy, voiceRead, slewFor, freeSlew, isBipolar, inputBy, auxBy, voiceAux, noAux, twoWay, scaleOf, offsetOf, noSlot, simpleRoute, routeBy, routeIn, routesIn};
+ghost use Rattle.model.specs.Routes.{linked, voiceGain, liveGain, unfedRead, readBy, voiceRead, slewFor, freeSlew};
+ghost use Rattle.model.specs.Routes.{isBipolar, inputBy, auxBy, voiceAux, noAux, twoWay, scaleOf, offsetOf, noSlot};
+ghost use Rattle.model.specs.Routes.{simpleRoute, routeBy, routeIn, routesIn};
 ghost use Rattle.model.specs.Plans.{readersInto};
 ghost use Rattle.compile_routes.specs.Added.{routesAdded, routeAdded, oneIf};
 use config::SLOTS;
@@ -275,7 +278,8 @@ fn is_live(aux: Aux, amount: Gain, output: Gain) -> bool
 
 // uncurved, unslewed and live
 fn is_straight(input: Input, aux: Aux, amount: Gain, output: Gain) -> bool
-    ensures { λ r. ⌜ r ≡ not (input .table) && (freeSlew (input .slew) && (noAux aux && (liveGain amount && liveGain output))) ⌝ }
+    ensures { λ r. ⌜ r ≡ not (input .table)
+        && (freeSlew (input .slew) && (noAux aux && (liveGain amount && liveGain output))) ⌝ }
 {
     if input.table {
         return false;
@@ -442,7 +446,8 @@ pub fn with_routes(
     d: u16,
     readers: Readers,
 ) -> Routes
-    ensures { λ x. ⌜ x ≡ routesAdded list (routesIn rate sources (numbersIn order) slot «dest_voice» (readersInto d (readersIn readers))) ⌝ }
+    ensures { λ x. ⌜ x ≡ routesAdded list
+        (routesIn rate sources (numbersIn order) slot «dest_voice» (readersInto d (readersIn readers))) ⌝ }
 {
     let n = state_filled::held(readers.count);
     let mut out = list;

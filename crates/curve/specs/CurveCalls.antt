@@ -10,13 +10,15 @@ use Rattle.curve_table.specs.Table.{lookupOf, tableCode, tabulated, diagonalAt}
 use Rattle.curve.specs.declared.Looked.{Looked}
 use Rattle.curve.specs.declared.Slewed.{Slewed}
 
--- The table at x (curve.rs 139-145). Only the table's rows apply, 6 and 15: the position is exempt from row 6, since document 01 says what a NaN position
--- yields. A refusal has the value 0.
+-- The table at x (curve.rs 139-145). Only the table's rows apply, 6 and 15: the position is exempt from row 6, since
+-- document 01 says what a NaN position yields. A refusal has the value 0.
 unfoldable pub lookupCall : List Float → Float → Looked
 lookupCall t x =
-    cond (eqb (tableCode t) 0) (record { code = 0; value = lookupOf t x }) (record { code = tableCode t; value = zero32 })
+    cond (eqb (tableCode t) 0) (record { code = 0; value = lookupOf t x })
+    (record { code = tableCode t; value = zero32 })
 
--- A curve's rise and fall, below 0 taken as 0 (curve.rs 91-96). Row 6 where one is not finite; a refusal has 0 for both.
+-- A curve's rise and fall, below 0 taken as 0 (curve.rs 91-96). Row 6 where one is not finite; a refusal has 0 for
+-- both.
 unfoldable pub slewCall : Curve → Slewed
 slewCall c =
     cond (eqb (curveCode c) 0)

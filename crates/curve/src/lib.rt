@@ -1,4 +1,5 @@
-// Curves: the public calls on tables. The definitions that contracts cite are in specs/CurveCalls.antt and in the crate curve_table.
+// Curves: the public calls on tables. The definitions that contracts cite are in specs/CurveCalls.antt and in the crate
+// curve_table.
 ghost use mathlib.Core.Path.{_≡_};
 ghost use Rattle.curve_table.specs.Curve.{isLinear};
 ghost use Rattle.curve.specs.CurveCalls.{lookupCall, slewCall, diagonalTable};

@@ -13,8 +13,8 @@ abbrev pub isLinear : Curve → Bool
 isLinear C.Linear = true
 isLinear (C.Table rise fall) = false
 
--- Rise and fall in seconds, below 0 taken as 0 (curve.rs 91-96). The Rust's max(0.0) gives 0 for a NaN, as here. For -0 Rust leaves open which zero
--- it gives; here it stays -0, and document 01's comparison takes the two as equal.
+-- Rise and fall in seconds, below 0 taken as 0 (curve.rs 91-96). The Rust's max(0.0) gives 0 for a NaN, as here. For -0
+-- Rust leaves open which zero it gives; here it stays -0, and document 01's comparison takes the two as equal.
 unfoldable pub secondsOf : Curve → Seconds
 secondsOf C.Linear = record { rise = zero32; fall = zero32 }
 secondsOf (C.Table rise fall) = record { rise = max32 rise zero32; fall = max32 fall zero32 }

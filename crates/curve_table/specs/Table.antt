@@ -1,4 +1,5 @@
--- Tables of 513 numbers: their points, the lookup, and what a table may hold (document 01, Curve table). Definitions only.
+-- Tables of 513 numbers: their points, the lookup, and what a table may hold (document 01, Curve table). Definitions
+-- only.
 use mathlib.Core.Bool.{Bool, true, false, not, _&&_}
 use mathlib.Core.List.{List, [], _∷_}
 use Prim.Native.Nat.{ℕ, zero, suc, _+_, min}

@@ -2,7 +2,8 @@
 ghost use mathlib.Core.Path.{_≡_};
 ghost use Prim.Native.Nat.{_≤_};
 ghost use lib.ListN.{length};
-ghost use Rattle.curve_table.specs.Table.{points, position, cellAt, cellOf, lookupOf, allowed, allAllowed, tableCode};
+ghost use Rattle.curve_table.specs.Table.{points, position, cellAt, cellOf, lookupOf, allowed, allAllowed};
+ghost use Rattle.curve_table.specs.Table.{tableCode};
 ghost use Rattle.curve_table.specs.Curve.{isLinear, secondsOf, secondsFinite, curveCode};
 
 // the numbers of a table, and its last cell

@@ -1,9 +1,11 @@
--- What a decimal of a session stands for (docs/SESSIONS.md, How a line reads). Definitions only.
--- A decimal is a sign or none, digits with a point or without, an exponent or none: -0.25, .5, 5., 48000.0, 1.5E+2, +1e-3. It has a digit before the point or
--- after it, and it has a point or an exponent: a bare row of digits is a whole number. An exponent is e or E, a sign or none, and digits. A sign is + or -.
--- With its digits as one whole number m and the last of them counting 10 ^ p it stands for the binary32 nearest to m * 10 ^ p, a tie going to the even one.
--- It is read where m is below 10 ^ 18 (18 digits, zeros in front not counted, zeros at the end counted), the exponent's digits are a number below 1000, and, where
--- m is not 0, p is not below -17 and, from p = 0 on, m * 10 ^ p is below 2 ^ 64. Any other decimal is outside. Where m is 0 it is a zero, of the decimal's sign.
+-- What a decimal of a session stands for (docs/SESSIONS.md, How a line reads). Definitions only. A decimal is a sign or
+-- none, digits with a point or without, an exponent or none: -0.25, .5, 5., 48000.0, 1.5E+2, +1e-3. It has a digit
+-- before the point or after it, and it has a point or an exponent: a bare row of digits is a whole number. An exponent
+-- is e or E, a sign or none, and digits. A sign is + or -. With its digits as one whole number m and the last of them
+-- counting 10 ^ p it stands for the binary32 nearest to m * 10 ^ p, a tie going to the even one. It is read where m is
+-- below 10 ^ 18 (18 digits, zeros in front not counted, zeros at the end counted), the exponent's digits are a number
+-- below 1000, and, where m is not 0, p is not below -17 and, from p = 0 on, m * 10 ^ p is below 2 ^ 64. Any other
+-- decimal is outside. Where m is 0 it is a zero, of the decimal's sign.
 use mathlib.Core.Bool.{Bool, true, false, cond, _&&_, _||_}
 use mathlib.Core.List.{List, [], _∷_}
 use Prim.Native.Nat.{ℕ, suc, _+_, _-_, _*_, _^_}
@@ -81,7 +83,9 @@ exponent w = number 0 (unsigned (power w))
 
 -- 'e' or 'E', a sign or none, and nothing but digits, at least one
 unfoldable pub isPower : List ℕ → Bool
-isPower w = (eqb (lead (mark w)) 101 || eqb (lead (mark w)) 69) && (ltb 0 (length (unsigned (power w))) && eqb (run (unsigned (power w))) (length (unsigned (power w))))
+isPower w =
+    (eqb (lead (mark w)) 101 || eqb (lead (mark w)) 69) &&
+    (ltb 0 (length (unsigned (power w))) && eqb (run (unsigned (power w))) (length (unsigned (power w))))
 
 unfoldable pub isDecimal : List ℕ → Bool
 isDecimal w = ltb 0 (run (unsigned w) + run (afterPoint w)) && (isPower w || (hasPoint w && eqb (length (mark w)) 0))
@@ -106,11 +110,13 @@ over s m k = cond (leb k 17) (given (round binary32 s m (10 ^ k))) beyond
 
 -- m * 10 ^ up / 10 ^ down
 unfoldable pub scaled : Bool → ℕ → ℕ → ℕ → DecimalWord
-scaled s m up down = cond (eqb m 0) (given (fin s 0 (pos 0))) (cond (leb down up) (times s m (up - down)) (over s m (down - up)))
+scaled s m up down =
+    cond (eqb m 0) (given (fin s 0 (pos 0))) (cond (leb down up) (times s m (up - down)) (over s m (down - up)))
 
 -- the digits m, of which f stand after the point, times 10 ^ e, or 10 ^ -e where n says so
 unfoldable pub valued : Bool → ℕ → ℕ → Bool → ℕ → DecimalWord
 valued s m f n e = cond (ltb m (10 ^ 18) && ltb e 1000) (cond n (scaled s m 0 (f + e)) (scaled s m e f)) beyond
 
 unfoldable pub decimalOf : List ℕ → DecimalWord
-decimalOf w = cond (isDecimal w) (valued (isMinus w) (digits w) (run (afterPoint w)) (isMinus (power w)) (exponent w)) none
+decimalOf w =
+    cond (isDecimal w) (valued (isMinus w) (digits w) (run (afterPoint w)) (isMinus (power w)) (exponent w)) none

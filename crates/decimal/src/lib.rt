@@ -1,4 +1,5 @@
-// Decimals of a session: a word as the nearest f32 (docs/SESSIONS.md, How a line reads). The definitions that contracts cite are in specs/Decimal.antt.
+// Decimals of a session: a word as the nearest f32 (docs/SESSIONS.md, How a line reads). The definitions that contracts
+// cite are in specs/Decimal.antt.
 ghost use mathlib.Core.Path.{_≡_};
 ghost use mathlib.Core.Bool.{true, false, cond, _&&_, _||_};
 ghost use Prim.Native.Nat.{_+_, _-_, _*_, _^_, _≤_, _<_, min};
@@ -6,7 +7,9 @@ ghost use lib.Dec.{ltb, eqb};
 ghost use lib.ListN.{length, drop};
 ghost use lib.Ieee.{binary32, neg, round};
 ghost use lib.Ieee.Nearest.{closest};
-ghost use Rattle.decimal.specs.Decimal.{lead, isDigit, run, past, number, isSign, isMinus, unsigned, rest, hasPoint, afterPoint, mark, power, digits, exponent, isPower, isDecimal, given, beyond, none, times, over, scaled, valued, decimalOf};
+ghost use Rattle.decimal.specs.Decimal.{lead, isDigit, run, past, number, isSign, isMinus, unsigned, rest};
+ghost use Rattle.decimal.specs.Decimal.{hasPoint, afterPoint, mark, power, digits, exponent, isPower, isDecimal};
+ghost use Rattle.decimal.specs.Decimal.{given, beyond, none, times, over, scaled, valued, decimalOf};
 
 // What a word is as a decimal: a value, or a decimal outside what is read, or none.
 pub struct DecimalWord {
@@ -340,7 +343,8 @@ fn nearest(a: u64, b: u64) -> u64
     q + q % 2
 }
 
-// m / 10^k. The fraction m / 5^k times a power of two is a / b with 24 digits before the point; its nearest whole number is the significand.
+// m / 10^k. The fraction m / 5^k times a power of two is a / b with 24 digits before the point; its nearest whole
+// number is the significand.
 fn quotient(m: u64, k: u64) -> f32
     requires { ⌜ (0 < m) × (m < 10 ^ 18) × (k ≤ 17) ⌝ }
     ensures { λ r. ⌜ r ≡ round binary32 false m (10 ^ k) ⌝ }

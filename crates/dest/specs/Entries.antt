@@ -1,5 +1,5 @@
--- The registry of destinations: which entries are registered, and how one is found (document 01, Destination entry; dest.rs 212-217, 276-299).
--- Definitions only.
+-- The registry of destinations: which entries are registered, and how one is found (document 01, Destination entry;
+-- dest.rs 212-217, 276-299). Definitions only.
 use mathlib.Core.Path.{_≡_, refl}
 use mathlib.Core.Bool.{Bool, true, false, cond, _&&_}
 use mathlib.Core.List.{List, [], _∷_}
@@ -76,14 +76,18 @@ on : Target → Dest
 on t = record { target = t; scope = S.Global; rate = R.Control; min = zero32; max = one32; feed = F.Nothing }
 
 -- a number alone does not make a parameter the same as a bus; LFO and bus both count
-targets : (sameTarget (Param 7) (Param 7) ≡ true) × (sameTarget (Param 7) (Param 8) ≡ false) × (sameTarget (Param 3) (LfoBus 3 3) ≡ false) × (sameTarget (LfoBus 3 3) (Param 3) ≡ false) × (sameTarget (LfoBus 1 2) (LfoBus 1 2) ≡ true) × (sameTarget (LfoBus 1 2) (LfoBus 1 3) ≡ false) × (sameTarget (LfoBus 1 2) (LfoBus 2 1) ≡ false)
+targets : (sameTarget (Param 7) (Param 7) ≡ true) × (sameTarget (Param 7) (Param 8) ≡ false)
+    × (sameTarget (Param 3) (LfoBus 3 3) ≡ false) × (sameTarget (LfoBus 3 3) (Param 3) ≡ false)
+    × (sameTarget (LfoBus 1 2) (LfoBus 1 2) ≡ true) × (sameTarget (LfoBus 1 2) (LfoBus 1 3) ≡ false)
+    × (sameTarget (LfoBus 1 2) (LfoBus 2 1) ≡ false)
 targets = (refl, refl, refl, refl, refl, refl, refl)
 
 some : List Dest
 some = on (Param 7) ∷ on (LfoBus 1 2) ∷ on (LfoBus 1 3) ∷ on (Param 7) ∷ []
 
 -- the first of two; a bus by both its numbers; one that is not there
-finds : (findTarget (Param 7) some ≡ D.At 0) × (findTarget (LfoBus 1 3) some ≡ D.At 2) × (findTarget (LfoBus 2 2) some ≡ D.Nothing) × (findTarget (Param 7) [] ≡ D.Nothing)
+finds : (findTarget (Param 7) some ≡ D.At 0) × (findTarget (LfoBus 1 3) some ≡ D.At 2)
+    × (findTarget (LfoBus 2 2) some ≡ D.Nothing) × (findTarget (Param 7) [] ≡ D.Nothing)
 unfolding findTarget findFrom some on
 finds = (refl, refl, refl, refl)
 
@@ -92,7 +96,10 @@ unfolding entryAt some
 entries = (refl, refl)
 
 -- a count beyond the most counts as the most
-held : (entry : List Dest) → (destCount (record { count = 5000; entry = entry }) ≡ 1024) × (destCount (record { count = 1024; entry = entry }) ≡ 1024) × (destCount (record { count = 3; entry = entry }) ≡ 3) × (destsEmpty (record { count = 0; entry = entry }) ≡ true) × (destsEmpty (record { count = 1; entry = entry }) ≡ false)
+held : (entry : List Dest) → (destCount (record { count = 5000; entry = entry }) ≡ 1024)
+    × (destCount (record { count = 1024; entry = entry }) ≡ 1024)
+    × (destCount (record { count = 3; entry = entry }) ≡ 3) × (destsEmpty (record { count = 0; entry = entry }) ≡ true)
+    × (destsEmpty (record { count = 1; entry = entry }) ≡ false)
 unfolding destsEmpty
 held entry = (refl, refl, refl, refl, refl)
 

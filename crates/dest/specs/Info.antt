@@ -61,11 +61,20 @@ destFeeds d f = record { target = d .target; scope = d .scope; rate = R.Control;
 
 -- dest.rs 90-100
 abbrev pub paramInfo : ℕ → DestInfo
-paramInfo id = record { target = Param id; scope = S.Global; rate = R.Control; min = zero32; max = one32; feed = F.Nothing }
+paramInfo id =
+    record { target = Param id; scope = S.Global; rate = R.Control; min = zero32; max = one32; feed = F.Nothing }
 
 -- dest.rs 105-115
 abbrev pub lfoBusInfo : ℕ → ℕ → DestInfo
-lfoBusInfo lfo bus = record { target = LfoBus lfo bus; scope = S.Voice; rate = R.Control; min = minusOne32; max = one32; feed = F.Nothing }
+lfoBusInfo lfo bus =
+    record {
+      target = LfoBus lfo bus;
+      scope = S.Voice;
+      rate = R.Control;
+      min = minusOne32;
+      max = one32;
+      feed = F.Nothing;
+    }
 
 -- dest.rs 119-121
 abbrev pub macroInfo : ℕ → ℕ → DestInfo
@@ -81,12 +90,28 @@ slotOutputInfo id slot = destFeeds (paramInfo id) (F.Output slot)
 
 -- ---- examples
 
-amount : slotAmountInfo 7 3 ≡ record { target = Param 7; scope = S.Global; rate = R.Control; min = minusOne32; max = one32; feed = F.Amount 3 }
+amount : slotAmountInfo 7 3 ≡ record {
+  target = Param 7;
+  scope = S.Global;
+  rate = R.Control;
+  min = minusOne32;
+  max = one32;
+  feed = F.Amount 3;
+}
 amount = refl
 
 -- a feed takes the rate back to control; a later step may set it again
-fed : destFeeds (destAudio (destVoice (paramInfo 7))) (F.Source 2) ≡ record { target = Param 7; scope = S.Voice; rate = R.Control; min = zero32; max = one32; feed = F.Source 2 }
+fed : destFeeds (destAudio (destVoice (paramInfo 7))) (F.Source 2)
+    ≡ record { target = Param 7; scope = S.Voice; rate = R.Control; min = zero32; max = one32; feed = F.Source 2 }
 fed = refl
 
-tuning : destAdaptive (destUnbounded (lfoBusInfo 1 2)) ≡ record { target = LfoBus 1 2; scope = S.Voice; rate = R.Adaptive; min = inf true; max = inf false; feed = F.Nothing }
+tuning : destAdaptive (destUnbounded (lfoBusInfo 1 2))
+    ≡ record {
+      target = LfoBus 1 2;
+      scope = S.Voice;
+      rate = R.Adaptive;
+      min = inf true;
+      max = inf false;
+      feed = F.Nothing;
+    }
 tuning = refl

@@ -1,4 +1,5 @@
-// The registry of destinations (dest.rs; document 01, Destination entry). The definitions that contracts cite are in specs/.
+// The registry of destinations (dest.rs; document 01, Destination entry). The definitions that contracts cite are in
+// specs/.
 ghost use mathlib.Core.Path.{_≡_};
 ghost use Rattle.state.specs.Registry.{destCount, sameTarget};
 ghost use Rattle.dest.specs.Entries.{noDests, destsEmpty, getDest, findDest, isFound};
@@ -30,7 +31,8 @@ use state::Rate;
 use state::Scope;
 use state::Target;
 
-// The answer of add. Code 0: the entry is number id of the registry. Else the number of the row, id 0, and the registry as it came.
+// The answer of add. Code 0: the entry is number id of the registry. Else the number of the row, id 0, and the registry
+// as it came.
 pub struct DestAdded {
     pub code: u8,
     pub id: usize,
@@ -183,7 +185,8 @@ pub fn add(
     max: f32,
     feed: Feed,
 ) -> DestAdded
-    ensures { λ r. ⌜ r ≡ addDest dests (record { target = target; scope = scope; rate = rate; min = min; max = max; feed = feed }) ⌝ }
+    ensures { λ r. ⌜ r ≡ addDest dests
+        (record { target = target; scope = scope; rate = rate; min = min; max = max; feed = feed }) ⌝ }
 {
     let d = Dest {
         target,

@@ -1,6 +1,7 @@
--- xorshift64*: S. Vigna, "An experimental exploration of Marsaglia's xorshift generators, scrambled". The state is a number below 2 ^ 64. A draw steps
--- the state by three shifts and xors, and reads its number off the state after, multiplied ("scrambled"); document 01, "Chunk and value", draws;
--- engine.rs 690-697. Definitions and examples only. Assumes nothing.
+-- xorshift64*: S. Vigna, "An experimental exploration of Marsaglia's xorshift generators, scrambled". The state is a
+-- number below 2 ^ 64. A draw steps the state by three shifts and xors, and reads its number off the state after,
+-- multiplied ("scrambled"); document 01, "Chunk and value", draws; engine.rs 690-697. Definitions and examples only.
+-- Assumes nothing.
 use mathlib.Core.Path.{_≡_, refl}
 use mathlib.Core.List.{List, [], _∷_}
 use Prim.Native.Nat.{ℕ, zero, suc, _*_, _/_, _%_, _^_}
@@ -21,7 +22,8 @@ xorLeft b x = bitXor x (x * 2 ^ b % 2 ^ 64)
 unfoldable pub step : ℕ → ℕ
 step x = xorRight 27 (xorLeft 25 (xorRight 12 x))
 
--- The output that the paper reads off a state: its product with the multiplier that goes with those amounts, in 64 bits.
+-- The output that the paper reads off a state: its product with the multiplier that goes with those amounts, in 64
+-- bits.
 unfoldable pub scrambled : ℕ → ℕ
 scrambled x = x * 2685821657736338717 % 2 ^ 64
 

@@ -1,5 +1,5 @@
-// Row 6 at its edges for the calls that no session reaches: a matrix that is loaded or sorted, a program that is installed, a curve's seconds.
-// Prints a line for each call, with the number that it hands back.
+// Row 6 at its edges for the calls that no session reaches: a matrix that is loaded or sorted, a program that is
+// installed, a curve's seconds. Prints a line for each call, with the number that it hands back.
 ghost use Prim.Native.Nat.{_≤_};
 ghost use lib.ListN.{length};
 use config::Config;

@@ -1,9 +1,12 @@
-// The engine (docs/CALLS.md). Every `pub fn` is a public call; definitions stand in the crate model, over the state and the lists that the lent slices hold.
+// The engine (docs/CALLS.md). Every `pub fn` is a public call; definitions stand in the crate model, over the state and
+// the lists that the lent slices hold.
 ghost use mathlib.Core.Path.{_≡_};
 ghost use mathlib.Core.List.{[]};
 ghost use Rattle.model.specs.World.{worldOf};
-ghost use Rattle.model.specs.Settings.{refusedState, newEngine, unboundSignals, bindSignal, setHeld, setVoiceHeld, setBase, setAmount, setOutput, setVoiceLimit, swapProgram};
-ghost use Rattle.model.specs.Outputs.{engineStride, engineProgram, outputOf, audioPart, framePart, fromPart, toPart, chunkCount, chunkAt, audioAt, controlValue, rampOf, latestOf, latestAll};
+ghost use Rattle.model.specs.Settings.{refusedState, newEngine, unboundSignals, bindSignal, setHeld, setVoiceHeld};
+ghost use Rattle.model.specs.Settings.{setBase, setAmount, setOutput, setVoiceLimit, swapProgram};
+ghost use Rattle.model.specs.Outputs.{engineStride, engineProgram, outputOf, audioPart, framePart, fromPart, toPart};
+ghost use Rattle.model.specs.Outputs.{chunkCount, chunkAt, audioAt, controlValue, rampOf, latestOf, latestAll};
 ghost use mathlib.Core.Bool.{not, _||_};
 ghost use Rattle.model.specs.NoteCalls.{newNote, noteFinite, noteOn, noteOff, voiceEnded, isActive};
 ghost use Rattle.engine_notes.specs.Noting.{Inside, soundOn, heldOn};
@@ -43,7 +46,8 @@ pub struct Engine {
     state: State,
 }
 
-// A new engine, or the row by which it is refused, with the engine for rate 1, 0 frames, 0 voices and nothing registered.
+// A new engine, or the row by which it is refused, with the engine for rate 1, 0 frames, 0 voices and nothing
+// registered.
 pub struct Made {
     pub code: u8,
     pub engine: Engine,
@@ -74,8 +78,20 @@ impl Engine {
         globals: &mut [f32],
         bases: &mut [f32],
     ) -> Made
-        ensures answer { λ r. ⌜ (r .code ≡ newEngine sources dests config (worldOf refusedState (now (held .entry)) (now (globals .entry)) (now (bases .entry)) [] [] []) .code) × (r .engine .state ≡ newEngine sources dests config (worldOf refusedState (now (held .entry)) (now (globals .entry)) (now (bases .entry)) [] [] []) .world .state) ⌝ }
-        ensures lent { λ _. ⌜ (now (held .exit) ≡ newEngine sources dests config (worldOf refusedState (now (held .entry)) (now (globals .entry)) (now (bases .entry)) [] [] []) .world .held) × ((now (globals .exit) ≡ newEngine sources dests config (worldOf refusedState (now (held .entry)) (now (globals .entry)) (now (bases .entry)) [] [] []) .world .globals) × (now (bases .exit) ≡ newEngine sources dests config (worldOf refusedState (now (held .entry)) (now (globals .entry)) (now (bases .entry)) [] [] []) .world .bases)) ⌝ }
+        ensures answer { λ r. ⌜ (r .code ≡ newEngine sources dests config
+            (worldOf refusedState (now (held .entry)) (now (globals .entry)) (now (bases .entry)) [] [] []) .code)
+            × (r .engine .state ≡ newEngine sources dests config
+            (worldOf refusedState (now (held .entry)) (now (globals .entry))
+            (now (bases .entry)) [] [] []) .world .state) ⌝ }
+        ensures lent { λ _. ⌜ (now (held .exit) ≡ newEngine sources dests config
+            (worldOf refusedState (now (held .entry)) (now (globals .entry))
+            (now (bases .entry)) [] [] []) .world .held)
+            × ((now (globals .exit) ≡ newEngine sources dests config
+            (worldOf refusedState (now (held .entry)) (now (globals .entry))
+            (now (bases .entry)) [] [] []) .world .globals) ×
+            (now (bases .exit) ≡ newEngine sources dests config
+            (worldOf refusedState (now (held .entry)) (now (globals .entry))
+            (now (bases .entry)) [] [] []) .world .bases)) ⌝ }
     {
         let n = engine_settings::sources_of(sources.count);
         let d = engine_settings::dests_of(dests.count);
@@ -97,7 +113,9 @@ impl Engine {
 
     // The program is installed, and the one that it replaces comes back.
     pub fn swap(self, program: Program) -> Swapped
-        ensures { λ r. ⌜ (r .code ≡ swapProgram (self .state) program .code) × ((r .engine .state ≡ swapProgram (self .state) program .state) × (r .program ≡ swapProgram (self .state) program .program)) ⌝ }
+        ensures { λ r. ⌜ (r .code ≡ swapProgram (self .state) program .code)
+            × ((r .engine .state ≡ swapProgram (self .state) program .state)
+            × (r .program ≡ swapProgram (self .state) program .program)) ⌝ }
     {
         let mut state = self.state;
         let config = state.config;
@@ -171,7 +189,15 @@ impl Engine {
 
     // A source's held number: all lanes of a source per voice, the one number of a global one.
     pub fn set_held(self, held: &mut [f32], globals: &mut [f32], source: usize, value: f32) -> Done
-        ensures { λ r. ⌜ (r .code ≡ setHeld (worldOf (self .state) (now (held .entry)) (now (globals .entry)) [] [] [] []) source value .code) × ((r .engine .state ≡ setHeld (worldOf (self .state) (now (held .entry)) (now (globals .entry)) [] [] [] []) source value .world .state) × ((now (held .exit) ≡ setHeld (worldOf (self .state) (now (held .entry)) (now (globals .entry)) [] [] [] []) source value .world .held) × (now (globals .exit) ≡ setHeld (worldOf (self .state) (now (held .entry)) (now (globals .entry)) [] [] [] []) source value .world .globals))) ⌝ }
+        ensures { λ r. ⌜ (r .code ≡ setHeld
+            (worldOf (self .state) (now (held .entry)) (now (globals .entry)) [] [] [] []) source value .code)
+            × ((r .engine .state ≡ setHeld
+            (worldOf (self .state) (now (held .entry)) (now (globals .entry)) [] [] [] []) source value .world .state)
+            × ((now (held .exit) ≡ setHeld
+            (worldOf (self .state) (now (held .entry)) (now (globals .entry)) [] [] [] []) source value .world .held)
+            × (now (globals .exit) ≡ setHeld
+            (worldOf (self .state) (now (held .entry))
+            (now (globals .entry)) [] [] [] []) source value .world .globals))) ⌝ }
     {
         let state = self.state;
         let config = state.config;
@@ -198,7 +224,12 @@ impl Engine {
 
     // One lane of a source's held number.
     pub fn set_voice_held(self, held: &mut [f32], source: usize, voice: usize, value: f32) -> Done
-        ensures { λ r. ⌜ (r .code ≡ setVoiceHeld (worldOf (self .state) (now (held .entry)) [] [] [] [] []) source voice value .code) × ((r .engine .state ≡ setVoiceHeld (worldOf (self .state) (now (held .entry)) [] [] [] [] []) source voice value .world .state) × (now (held .exit) ≡ setVoiceHeld (worldOf (self .state) (now (held .entry)) [] [] [] [] []) source voice value .world .held)) ⌝ }
+        ensures { λ r. ⌜ (r .code ≡ setVoiceHeld
+            (worldOf (self .state) (now (held .entry)) [] [] [] [] []) source voice value .code)
+            × ((r .engine .state ≡ setVoiceHeld
+            (worldOf (self .state) (now (held .entry)) [] [] [] [] []) source voice value .world .state)
+            × (now (held .exit) ≡ setVoiceHeld
+            (worldOf (self .state) (now (held .entry)) [] [] [] [] []) source voice value .world .held)) ⌝ }
     {
         let state = self.state;
         let config = state.config;
@@ -224,7 +255,12 @@ impl Engine {
 
     // A destination's base.
     pub fn set_base(self, bases: &mut [f32], dest: usize, value: f32) -> Done
-        ensures { λ r. ⌜ (r .code ≡ setBase (worldOf (self .state) [] [] (now (bases .entry)) [] [] []) dest value .code) × ((r .engine .state ≡ setBase (worldOf (self .state) [] [] (now (bases .entry)) [] [] []) dest value .world .state) × (now (bases .exit) ≡ setBase (worldOf (self .state) [] [] (now (bases .entry)) [] [] []) dest value .world .bases)) ⌝ }
+        ensures { λ r. ⌜ (r .code ≡ setBase
+            (worldOf (self .state) [] [] (now (bases .entry)) [] [] []) dest value .code)
+            × ((r .engine .state ≡ setBase
+            (worldOf (self .state) [] [] (now (bases .entry)) [] [] []) dest value .world .state)
+            × (now (bases .exit) ≡ setBase
+            (worldOf (self .state) [] [] (now (bases .entry)) [] [] []) dest value .world .bases)) ⌝ }
     {
         let code = engine_settings::base_code(self.state.dests, bases.len(), dest, value);
         if code != 0 {
@@ -239,7 +275,8 @@ impl Engine {
 
     // A slot's live amount, clamped to -1..1.
     pub fn set_amount(self, slot: usize, amount: f32) -> Done
-        ensures { λ r. ⌜ (r .code ≡ setAmount (worldOf (self .state) [] [] [] [] [] []) slot amount .code) × (r .engine .state ≡ setAmount (worldOf (self .state) [] [] [] [] [] []) slot amount .world .state) ⌝ }
+        ensures { λ r. ⌜ (r .code ≡ setAmount (worldOf (self .state) [] [] [] [] [] []) slot amount .code)
+            × (r .engine .state ≡ setAmount (worldOf (self .state) [] [] [] [] [] []) slot amount .world .state) ⌝ }
     {
         let code = engine_settings::gain_code(slot, amount);
         if code != 0 {
@@ -255,7 +292,8 @@ impl Engine {
 
     // A slot's live output, clamped to 0..1.
     pub fn set_output(self, slot: usize, output: f32) -> Done
-        ensures { λ r. ⌜ (r .code ≡ setOutput (worldOf (self .state) [] [] [] [] [] []) slot output .code) × (r .engine .state ≡ setOutput (worldOf (self .state) [] [] [] [] [] []) slot output .world .state) ⌝ }
+        ensures { λ r. ⌜ (r .code ≡ setOutput (worldOf (self .state) [] [] [] [] [] []) slot output .code)
+            × (r .engine .state ≡ setOutput (worldOf (self .state) [] [] [] [] [] []) slot output .world .state) ⌝ }
     {
         let code = engine_settings::gain_code(slot, output);
         if code != 0 {
@@ -271,7 +309,8 @@ impl Engine {
 
     // The voice limit, at least 1.
     pub fn set_voice_limit(self, voices: usize) -> Done
-        ensures { λ r. ⌜ (r .code ≡ setVoiceLimit (worldOf (self .state) [] [] [] [] [] []) voices .code) × (r .engine .state ≡ setVoiceLimit (worldOf (self .state) [] [] [] [] [] []) voices .world .state) ⌝ }
+        ensures { λ r. ⌜ (r .code ≡ setVoiceLimit (worldOf (self .state) [] [] [] [] [] []) voices .code)
+            × (r .engine .state ≡ setVoiceLimit (worldOf (self .state) [] [] [] [] [] []) voices .world .state) ⌝ }
     {
         let limit = engine_settings::limit_of(voices);
         let mut engine = self;
@@ -390,7 +429,8 @@ fn setting_by(tables: &[f32], curves: Curves, rate: f32, note: NoteOn) -> Settin
 // the state and the held numbers, once a note starts in a lane
 fn play(mut state: State, held: &mut [f32], lane: Lane, setting: Setting) -> State
     requires { ⌜ Inside lane ⌝ }
-    ensures { λ r. ⌜ (r ≡ stateWith state (soundOn (state .mark) lane (soundingOf state) setting)) × (now (held .exit) ≡ heldOn (state .mark) lane (soundingOf state) setting (now (held .entry))) ⌝ }
+    ensures { λ r. ⌜ (r ≡ stateWith state (soundOn (state .mark) lane (soundingOf state) setting))
+        × (now (held .exit) ≡ heldOn (state .mark) lane (soundingOf state) setting (now (held .entry))) ⌝ }
 {
     let mark = state.mark;
     let voices = state.voices;
@@ -422,7 +462,13 @@ fn play(mut state: State, held: &mut [f32], lane: Lane, setting: Setting) -> Sta
 impl Engine {
     // A note starts on a voice.
     pub fn note_on(self, held: &mut [f32], tables: &[f32], voice: usize, note: NoteOn) -> Done
-        ensures { λ r. ⌜ (r .code ≡ noteOn (worldOf (self .state) (now (held .entry)) [] [] [] [] (now (tables .entry))) voice (noteOf note) .code) × ((r .engine .state ≡ noteOn (worldOf (self .state) (now (held .entry)) [] [] [] [] (now (tables .entry))) voice (noteOf note) .world .state) × (now (held .exit) ≡ noteOn (worldOf (self .state) (now (held .entry)) [] [] [] [] (now (tables .entry))) voice (noteOf note) .world .held)) ⌝ }
+        ensures { λ r. ⌜ (r .code ≡ noteOn
+            (worldOf (self .state) (now (held .entry)) [] [] [] [] (now (tables .entry))) voice (noteOf note) .code)
+            × ((r .engine .state ≡ noteOn
+            (worldOf (self .state) (now (held .entry)) [] [] [] [] (now (tables .entry))) voice
+            (noteOf note) .world .state) ×
+            (now (held .exit) ≡ noteOn (worldOf (self .state) (now (held .entry)) [] [] [] []
+            (now (tables .entry))) voice (noteOf note) .world .held)) ⌝ }
     {
         let state = self.state;
         let config = state.config;
@@ -458,7 +504,12 @@ impl Engine {
 
     // A note is released: its release velocity is written, and its voice sounds on.
     pub fn note_off(self, held: &mut [f32], voice: usize, release_velocity: f32) -> Done
-        ensures { λ r. ⌜ (r .code ≡ noteOff (worldOf (self .state) (now (held .entry)) [] [] [] [] []) voice «release_velocity» .code) × ((r .engine .state ≡ noteOff (worldOf (self .state) (now (held .entry)) [] [] [] [] []) voice «release_velocity» .world .state) × (now (held .exit) ≡ noteOff (worldOf (self .state) (now (held .entry)) [] [] [] [] []) voice «release_velocity» .world .held)) ⌝ }
+        ensures { λ r. ⌜ (r .code ≡ noteOff
+            (worldOf (self .state) (now (held .entry)) [] [] [] [] []) voice «release_velocity» .code)
+            × ((r .engine .state ≡ noteOff
+            (worldOf (self .state) (now (held .entry)) [] [] [] [] []) voice «release_velocity» .world .state)
+            × (now (held .exit) ≡ noteOff
+            (worldOf (self .state) (now (held .entry)) [] [] [] [] []) voice «release_velocity» .world .held)) ⌝ }
     {
         let state = self.state;
         let config = state.config;
@@ -481,7 +532,10 @@ impl Engine {
 
     // A voice has stopped sounding.
     pub fn voice_ended(self, held: &[f32], voice: usize) -> Done
-        ensures { λ r. ⌜ (r .code ≡ voiceEnded (worldOf (self .state) (now (held .entry)) [] [] [] [] []) voice .code) × (r .engine .state ≡ voiceEnded (worldOf (self .state) (now (held .entry)) [] [] [] [] []) voice .world .state) ⌝ }
+        ensures { λ r. ⌜ (r .code ≡ voiceEnded
+            (worldOf (self .state) (now (held .entry)) [] [] [] [] []) voice .code)
+            × (r .engine .state ≡ voiceEnded
+            (worldOf (self .state) (now (held .entry)) [] [] [] [] []) voice .world .state) ⌝ }
     {
         let mut state = self.state;
         let config = state.config;
@@ -543,8 +597,29 @@ impl Engine {
         start: usize,
         end: usize,
     ) -> Done
-        ensures answer { λ r. ⌜ (r .code ≡ process (worldOf (self .state) (now (held .entry)) (now (globals .entry)) (now (bases .entry)) (now (values .entry)) (now (audio .entry)) (now (tables .entry))) (now (samples .entry)) signals start end .code) × (r .engine .state ≡ process (worldOf (self .state) (now (held .entry)) (now (globals .entry)) (now (bases .entry)) (now (values .entry)) (now (audio .entry)) (now (tables .entry))) (now (samples .entry)) signals start end .world .state) ⌝ }
-        ensures lent { λ _. ⌜ (now (held .exit) ≡ process (worldOf (self .state) (now (held .entry)) (now (globals .entry)) (now (bases .entry)) (now (values .entry)) (now (audio .entry)) (now (tables .entry))) (now (samples .entry)) signals start end .world .held) × ((now (globals .exit) ≡ process (worldOf (self .state) (now (held .entry)) (now (globals .entry)) (now (bases .entry)) (now (values .entry)) (now (audio .entry)) (now (tables .entry))) (now (samples .entry)) signals start end .world .globals) × ((now (values .exit) ≡ process (worldOf (self .state) (now (held .entry)) (now (globals .entry)) (now (bases .entry)) (now (values .entry)) (now (audio .entry)) (now (tables .entry))) (now (samples .entry)) signals start end .world .values) × (now (audio .exit) ≡ process (worldOf (self .state) (now (held .entry)) (now (globals .entry)) (now (bases .entry)) (now (values .entry)) (now (audio .entry)) (now (tables .entry))) (now (samples .entry)) signals start end .world .audio))) ⌝ }
+        ensures answer { λ r. ⌜ (r .code
+            ≡ process (worldOf (self .state) (now (held .entry)) (now (globals .entry)) (now (bases .entry))
+            (now (values .entry)) (now (audio .entry)) (now (tables .entry)))
+            (now (samples .entry)) signals start end .code) ×
+            (r .engine .state ≡ process (worldOf (self .state) (now (held .entry)) (now (globals .entry))
+            (now (bases .entry)) (now (values .entry)) (now (audio .entry)) (now (tables .entry)))
+            (now (samples .entry)) signals start end .world .state) ⌝ }
+        ensures lent { λ _. ⌜ (now (held .exit) ≡ process
+            (worldOf (self .state) (now (held .entry)) (now (globals .entry)) (now (bases .entry))
+            (now (values .entry)) (now (audio .entry)) (now (tables .entry)))
+            (now (samples .entry)) signals start end .world .held)
+            × ((now (globals .exit) ≡ process
+            (worldOf (self .state) (now (held .entry)) (now (globals .entry)) (now (bases .entry))
+            (now (values .entry)) (now (audio .entry)) (now (tables .entry)))
+            (now (samples .entry)) signals start end .world .globals)
+            × ((now (values .exit) ≡ process
+            (worldOf (self .state) (now (held .entry)) (now (globals .entry)) (now (bases .entry))
+            (now (values .entry)) (now (audio .entry)) (now (tables .entry)))
+            (now (samples .entry)) signals start end .world .values)
+            × (now (audio .exit) ≡ process
+            (worldOf (self .state) (now (held .entry)) (now (globals .entry)) (now (bases .entry))
+            (now (values .entry)) (now (audio .entry)) (now (tables .entry)))
+            (now (samples .entry)) signals start end .world .audio))) ⌝ }
     {
         let state = self.state;
         let lent = Lengths {
@@ -590,7 +665,8 @@ impl Engine {
     // The shape of a destination's output.
     pub fn output(self, values: &[f32], audio: &[f32], dest: usize) -> Output
         ensures { λ r. ⌜ r ≡ outputOf (self .state) (now (values .entry)) (now (audio .entry)) dest ⌝ }
-        ensures reply { λ r. ⌜ outputReply r ≡ outputSays (self .state) (now (values .entry)) (now (audio .entry)) dest ⌝ }
+        ensures reply { λ r. ⌜ outputReply r ≡ outputSays (self .state) (now (values .entry))
+            (now (audio .entry)) dest ⌝ }
     {
         let state = self.state;
         engine_reads::output(state, values, audio, dest)
@@ -598,7 +674,8 @@ impl Engine {
 
     // The audio rows of a destination; their number goes into `code`.
     pub fn audio_part<'a>(self, audio: &'a [f32], dest: usize, code: &mut u8) -> &'a [f32]
-        ensures { λ r. ⌜ (now r ≡ audioPart (self .state) (now (audio .entry)) dest .numbers) × (now (code .exit) ≡ audioPart (self .state) (now (audio .entry)) dest .code) ⌝ }
+        ensures { λ r. ⌜ (now r ≡ audioPart (self .state) (now (audio .entry)) dest .numbers)
+            × (now (code .exit) ≡ audioPart (self .state) (now (audio .entry)) dest .code) ⌝ }
     {
         let state = self.state;
         engine_reads::audio_part(state, audio, dest, code)
@@ -606,7 +683,8 @@ impl Engine {
 
     // The "from" rows of the last block's chunks.
     pub fn from_part<'a>(self, values: &'a [f32], dest: usize, code: &mut u8) -> &'a [f32]
-        ensures { λ r. ⌜ (now r ≡ fromPart (self .state) (now (values .entry)) dest .numbers) × (now (code .exit) ≡ fromPart (self .state) (now (values .entry)) dest .code) ⌝ }
+        ensures { λ r. ⌜ (now r ≡ fromPart (self .state) (now (values .entry)) dest .numbers)
+            × (now (code .exit) ≡ fromPart (self .state) (now (values .entry)) dest .code) ⌝ }
     {
         let state = self.state;
         engine_reads::from_part(state, values, dest, code)
@@ -614,7 +692,8 @@ impl Engine {
 
     // Their "to" rows.
     pub fn to_part<'a>(self, values: &'a [f32], dest: usize, code: &mut u8) -> &'a [f32]
-        ensures { λ r. ⌜ (now r ≡ toPart (self .state) (now (values .entry)) dest .numbers) × (now (code .exit) ≡ toPart (self .state) (now (values .entry)) dest .code) ⌝ }
+        ensures { λ r. ⌜ (now r ≡ toPart (self .state) (now (values .entry)) dest .numbers)
+            × (now (code .exit) ≡ toPart (self .state) (now (values .entry)) dest .code) ⌝ }
     {
         let state = self.state;
         engine_reads::to_part(state, values, dest, code)
@@ -648,7 +727,8 @@ impl Engine {
 
     // The row at a frame, of an audio plan.
     pub fn frame<'a>(self, audio: &'a [f32], dest: usize, frame: usize, code: &mut u8) -> &'a [f32]
-        ensures { λ r. ⌜ (now r ≡ framePart (self .state) (now (audio .entry)) dest frame .numbers) × (now (code .exit) ≡ framePart (self .state) (now (audio .entry)) dest frame .code) ⌝ }
+        ensures { λ r. ⌜ (now r ≡ framePart (self .state) (now (audio .entry)) dest frame .numbers)
+            × (now (code .exit) ≡ framePart (self .state) (now (audio .entry)) dest frame .code) ⌝ }
     {
         let state = self.state;
         engine_reads::audio_frame(state, audio, dest, frame, code)
@@ -665,8 +745,10 @@ impl Engine {
 
     // The ramp of a control plan over the last block, a number a frame.
     pub fn ramp(self, values: &[f32], dest: usize, voice: usize, out: &mut [f32]) -> Ramped
-        ensures { λ r. ⌜ (r ≡ rampOf (self .state) (now (values .entry)) dest voice (now (out .entry)) .answer) × (now (out .exit) ≡ rampOf (self .state) (now (values .entry)) dest voice (now (out .entry)) .out) ⌝ }
-        ensures reply { λ r. ⌜ rampedReply r ≡ rampSays (self .state) (now (values .entry)) dest voice (now (out .entry)) ⌝ }
+        ensures { λ r. ⌜ (r ≡ rampOf (self .state) (now (values .entry)) dest voice (now (out .entry)) .answer)
+            × (now (out .exit) ≡ rampOf (self .state) (now (values .entry)) dest voice (now (out .entry)) .out) ⌝ }
+        ensures reply { λ r. ⌜ rampedReply r ≡ rampSays (self .state) (now (values .entry)) dest voice
+            (now (out .entry)) ⌝ }
     {
         let state = self.state;
         engine_reads::ramp(state, values, dest, voice, out)
@@ -675,7 +757,8 @@ impl Engine {
     // The number after the last chunk, or at its last frame.
     pub fn latest(self, values: &[f32], audio: &[f32], dest: usize, voice: usize) -> Reading
         ensures { λ r. ⌜ r ≡ latestOf (self .state) (now (values .entry)) (now (audio .entry)) dest voice ⌝ }
-        ensures reply { λ r. ⌜ readingReply r ≡ latestSays (self .state) (now (values .entry)) (now (audio .entry)) dest voice ⌝ }
+        ensures reply { λ r. ⌜ readingReply r ≡ latestSays (self .state) (now (values .entry))
+            (now (audio .entry)) dest voice ⌝ }
     {
         let state = self.state;
         engine_reads::latest(state, values, audio, dest, voice)
@@ -683,7 +766,9 @@ impl Engine {
 
     // The latest number of every destination for each of so many voices.
     pub fn latest_all(self, values: &[f32], audio: &[f32], voices: usize, out: &mut [f32]) -> u8
-        ensures { λ r. ⌜ (r ≡ latestAll (self .state) (now (values .entry)) (now (audio .entry)) voices (now (out .entry)) .code) × (now (out .exit) ≡ latestAll (self .state) (now (values .entry)) (now (audio .entry)) voices (now (out .entry)) .out) ⌝ }
+        ensures { λ r. ⌜ (r ≡ latestAll (self .state) (now (values .entry)) (now (audio .entry)) voices
+            (now (out .entry)) .code) × (now (out .exit) ≡ latestAll (self .state) (now (values .entry))
+            (now (audio .entry)) voices (now (out .entry)) .out) ⌝ }
     {
         let state = self.state;
         engine_reads::latest_all(state, values, audio, voices, out)

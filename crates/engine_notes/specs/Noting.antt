@@ -1,4 +1,5 @@
--- What a note writes, from the parts of a state that it reads (model's specs/NoteCalls; proofs/Whole.antt has that the two agree). Definitions only.
+-- What a note writes, from the parts of a state that it reads (model's specs/NoteCalls; proofs/Whole.antt has that the
+-- two agree). Definitions only.
 use mathlib.Core.Bool.{Bool, true, not, cond}
 use mathlib.Core.List.{List}
 use Prim.Native.Nat.{ℕ, zero, suc, _+_, _*_, _≤_, _<_}
@@ -81,7 +82,8 @@ alternatesIn marks lane on (suc n) m =
 unfoldable pub valueIn : List SourceMark → Lane → ℕ → Bool → Notes → Float → Legato → List Float → List Float
 unfolding heldIn
 valueIn marks lane kind takes notes target time m =
-    cond takes (cond (glidesTo (valueOf notes (lane .voice)) target time) m (heldIn marks lane kind target (lane .sources) m)) m
+    cond takes (cond (glidesTo (valueOf notes (lane .voice)) target time) m
+    (heldIn marks lane kind target (lane .sources) m)) m
 
 unfoldable pub notesWith : Notes → ℕ → Bool → Float → Legato → Float → Notes
 notesWith notes v takes target time rate = cond takes (setNote notes v target time rate) notes

@@ -15,7 +15,14 @@ laneIn st v = record { sources = engineSources st; stride = strideOf st; voice =
 
 abbrev pub soundingOf : State → Sounding
 soundingOf st =
-    record { voices = st .voices; marks = st .marks; velocity = st .velocity; key = st .key; alternate = st .alternate; draw = st .draw }
+    record {
+      voices = st .voices;
+      marks = st .marks;
+      velocity = st .velocity;
+      key = st .key;
+      alternate = st .alternate;
+      draw = st .draw;
+    }
 
 -- the state with what sounds replaced
 abbrev pub stateWith : State → Sounding → State

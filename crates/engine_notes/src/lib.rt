@@ -1,4 +1,5 @@
-// What notes write into an engine's held numbers, and what they leave of what sounds. The definitions that contracts cite are in specs/Noting.antt and in the crate model.
+// What notes write into an engine's held numbers, and what they leave of what sounds. The definitions that contracts
+// cite are in specs/Noting.antt and in the crate model.
 ghost use mathlib.Core.Path.{_≡_};
 ghost use mathlib.Core.Bool.{true, cond, not, _||_};
 ghost use mathlib.Core.List.{[], _∷_};
@@ -14,7 +15,8 @@ ghost use Rattle.slots_tables.specs.Tables.{places, tablesNeed};
 ghost use Rattle.voice.specs.Notes.{valueOf};
 ghost use Rattle.number.specs.Number.{zero32, one32};
 ghost use Rattle.model.specs.NoteCalls.{noteCurve};
-ghost use Rattle.engine_notes.specs.Noting.{noteKind, Inside, placeIn, heldIn, drawsIn, randomsIn, alternateBy, alternatesIn, valueIn, notesWith, soundOn, heldOn};
+ghost use Rattle.engine_notes.specs.Noting.{noteKind, Inside, placeIn, heldIn, drawsIn, randomsIn, alternateBy};
+ghost use Rattle.engine_notes.specs.Noting.{alternatesIn, valueIn, notesWith, soundOn, heldOn};
 use config::SOURCES;
 use config::VOICES;
 use curve_table::POINTS;
@@ -48,7 +50,11 @@ fn held_sources(n: usize) -> usize
 
 // a voice's lane
 pub fn lane_of(sources: usize, voices: usize, voice: usize) -> Lane
-    ensures { λ r. ⌜ r ≡ record { sources = min sources mostSources; stride = laneStride (min voices mostVoices); voice = voice } ⌝ }
+    ensures { λ r. ⌜ r ≡ record {
+      sources = min sources mostSources;
+      stride = laneStride (min voices mostVoices);
+      voice = voice;
+    } ⌝ }
 {
     Lane {
         sources: held_sources(sources),
@@ -98,7 +104,8 @@ pub fn tables_short(len: usize, tabled: bool) -> bool
 
 // whether either memory of a note-on is too short
 pub fn memory_short(held: usize, tables: usize, sources: usize, voices: usize, tabled: bool) -> bool
-    ensures { λ r. ⌜ r ≡ ltb held (laneStride (min voices mostVoices) * min sources mostSources) || ltb tables (cond tabled tablesNeed 0) ⌝ }
+    ensures { λ r. ⌜ r ≡ ltb held (laneStride (min voices mostVoices) * min sources mostSources)
+        || ltb tables (cond tabled tablesNeed 0) ⌝ }
 {
     if held_short(held, sources, voices) {
         return true;
@@ -260,7 +267,8 @@ fn put_draw(held: &mut [f32], on: bool, i: usize, draw: u64)
 // Every random source takes a new draw; the state of the draws after.
 pub fn write_randoms(held: &mut [f32], mark: [SourceMark; SOURCES], lane: Lane, draw: u64) -> u64
     requires { ⌜ Inside lane ⌝ }
-    ensures { λ r. ⌜ (r ≡ drawsIn mark draw (lane .sources)) × (now (held .exit) ≡ randomsIn mark lane draw (lane .sources) (now (held .entry))) ⌝ }
+    ensures { λ r. ⌜ (r ≡ drawsIn mark draw (lane .sources))
+        × (now (held .exit) ≡ randomsIn mark lane draw (lane .sources) (now (held .entry))) ⌝ }
 {
     let sources = lane.sources;
     let mut last = draw;
@@ -398,7 +406,8 @@ fn write_note(
     setting: Setting,
 ) -> u64
     requires { ⌜ Inside lane ⌝ }
-    ensures { λ r. ⌜ (r ≡ drawsIn mark (sounding .draw) (lane .sources)) × (now (held .exit) ≡ heldOn mark lane sounding setting (now (held .entry))) ⌝ }
+    ensures { λ r. ⌜ (r ≡ drawsIn mark (sounding .draw) (lane .sources))
+        × (now (held .exit) ≡ heldOn mark lane sounding setting (now (held .entry))) ⌝ }
 {
     let time = setting.time;
     let velocity = sounding.velocity;
@@ -429,7 +438,8 @@ pub fn note_on(
     setting: Setting,
 ) -> Sounding
     requires { ⌜ Inside lane ⌝ }
-    ensures { λ r. ⌜ (r ≡ soundOn mark lane sounding setting) × (now (held .exit) ≡ heldOn mark lane sounding setting (now (held .entry))) ⌝ }
+    ensures { λ r. ⌜ (r ≡ soundOn mark lane sounding setting)
+        × (now (held .exit) ≡ heldOn mark lane sounding setting (now (held .entry))) ⌝ }
 {
     let draw = write_note(held, mark, lane, sounding, setting);
     let voice = lane.voice;

@@ -1,4 +1,5 @@
--- A destination's latest number for a voice, by what is known of the destination and of the last block. Definitions only.
+-- A destination's latest number for a voice, by what is known of the destination and of the last block. Definitions
+-- only.
 use mathlib.Core.Bool.{Bool, false, cond, _&&_}
 use mathlib.Core.List.{List}
 use Prim.Native.Nat.{ℕ, _-_}

@@ -1,4 +1,5 @@
--- Where the numbers of a destination stand, as it is read (model's specs/Outputs has what is read there). Definitions only.
+-- Where the numbers of a destination stand, as it is read (model's specs/Outputs has what is read there). Definitions
+-- only.
 use mathlib.Core.Bool.{cond}
 use Prim.Native.Nat.{ℕ, _+_, _*_, _≤_}
 use Rattle.config.specs.Sizes.{slots, mostFrames, mostStride}

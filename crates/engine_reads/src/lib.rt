@@ -14,7 +14,9 @@ ghost use Rattle.list.specs.Part.{part, onPart};
 ghost use Rattle.state_filled.specs.Filled.{noPlan};
 ghost use Rattle.model.specs.Layout.{planWidth, planSize, audioSize};
 ghost use Rattle.model.specs.Process.{valuesOf, audioNeedOf};
-ghost use Rattle.model.specs.Outputs.{planOf, outputOf, audioPart, framePart, fromPart, toPart, chunkCount, chunkAt, audioAt, controlValue, latestOf, rampAt, rampLength, rampOf, latestRow, latestRows, latestAll};
+ghost use Rattle.model.specs.Outputs.{planOf, outputOf, audioPart, framePart, fromPart, toPart, chunkCount, chunkAt};
+ghost use Rattle.model.specs.Outputs.{audioAt, controlValue, latestOf, rampAt, rampLength, rampOf, latestRow};
+ghost use Rattle.model.specs.Outputs.{latestRows, latestAll};
 ghost use Rattle.engine_reads.specs.Spot.{spotOf, shapeBy, mostStart, Bounded};
 ghost use Rattle.engine_reads.specs.Ramp.{rampNumber};
 ghost use Rattle.engine_reads.specs.Latest.{lastOf, laneNumber, latestBy};
@@ -181,8 +183,8 @@ fn and(a: bool, b: bool) -> bool
     false
 }
 
-// Where the numbers of a destination stand: whether its plan is at audio or at control rate, per voice, how wide a row is, and where the chunks' "from" and
-// "to" start in the values and the audio rows in the audio memory.
+// Where the numbers of a destination stand: whether its plan is at audio or at control rate, per voice, how wide a row
+// is, and where the chunks' "from" and "to" start in the values and the audio rows in the audio memory.
 pub struct Spot {
     pub audio: bool,
     pub control: bool,
@@ -426,7 +428,8 @@ fn none(mem: &[f32]) -> &[f32]
 
 // the audio rows of dest, and the number of the row by which they are refused
 pub fn audio_part<'a>(state: State, audio: &'a [f32], dest: usize, code: &mut u8) -> &'a [f32]
-    ensures { λ r. ⌜ (now r ≡ audioPart state (now (audio .entry)) dest .numbers) × (now (code .exit) ≡ audioPart state (now (audio .entry)) dest .code) ⌝ }
+    ensures { λ r. ⌜ (now r ≡ audioPart state (now (audio .entry)) dest .numbers)
+        × (now (code .exit) ≡ audioPart state (now (audio .entry)) dest .code) ⌝ }
 {
     if audio_short(state, audio.len()) {
         *code = SHORT;
@@ -457,7 +460,8 @@ pub fn audio_frame<'a>(
     frame: usize,
     code: &mut u8,
 ) -> &'a [f32]
-    ensures { λ r. ⌜ (now r ≡ framePart state (now (audio .entry)) dest frame .numbers) × (now (code .exit) ≡ framePart state (now (audio .entry)) dest frame .code) ⌝ }
+    ensures { λ r. ⌜ (now r ≡ framePart state (now (audio .entry)) dest frame .numbers)
+        × (now (code .exit) ≡ framePart state (now (audio .entry)) dest frame .code) ⌝ }
 {
     if audio_short(state, audio.len()) {
         *code = SHORT;
@@ -478,7 +482,8 @@ pub fn audio_frame<'a>(
 
 // the "from" rows of the chunks of dest
 pub fn from_part<'a>(state: State, values: &'a [f32], dest: usize, code: &mut u8) -> &'a [f32]
-    ensures { λ r. ⌜ (now r ≡ fromPart state (now (values .entry)) dest .numbers) × (now (code .exit) ≡ fromPart state (now (values .entry)) dest .code) ⌝ }
+    ensures { λ r. ⌜ (now r ≡ fromPart state (now (values .entry)) dest .numbers)
+        × (now (code .exit) ≡ fromPart state (now (values .entry)) dest .code) ⌝ }
 {
     if values_short(state, values.len()) {
         *code = SHORT;
@@ -494,7 +499,8 @@ pub fn from_part<'a>(state: State, values: &'a [f32], dest: usize, code: &mut u8
 
 // their "to" rows
 pub fn to_part<'a>(state: State, values: &'a [f32], dest: usize, code: &mut u8) -> &'a [f32]
-    ensures { λ r. ⌜ (now r ≡ toPart state (now (values .entry)) dest .numbers) × (now (code .exit) ≡ toPart state (now (values .entry)) dest .code) ⌝ }
+    ensures { λ r. ⌜ (now r ≡ toPart state (now (values .entry)) dest .numbers)
+        × (now (code .exit) ≡ toPart state (now (values .entry)) dest .code) ⌝ }
 {
     if values_short(state, values.len()) {
         *code = SHORT;
@@ -538,7 +544,8 @@ fn write_ramp(
     out: &mut [f32],
 )
     requires { ⌜ Bounded spot × (voice ≤ mostVoices) × (phase < period) × (frames ≤ length (now out)) ⌝ }
-    ensures { λ _. ⌜ now (out .exit) ≡ fill (now (out .entry)) (λ k. rampNumber (now (values .entry)) spot voice (phase + k)) frames ⌝ }
+    ensures { λ _. ⌜ now (out .exit) ≡ fill (now (out .entry))
+        (λ k. rampNumber (now (values .entry)) spot voice (phase + k)) frames ⌝ }
 {
     let mut k = 0usize;
     while k < frames {
@@ -572,7 +579,8 @@ fn ramp_short(state: State, values: usize, out: usize) -> bool
 
 // the ramp of the control plan of dest over the last block, a number a frame
 pub fn ramp(state: State, values: &[f32], dest: usize, voice: usize, out: &mut [f32]) -> Ramped
-    ensures { λ r. ⌜ (r ≡ rampOf state (now (values .entry)) dest voice (now (out .entry)) .answer) × (now (out .exit) ≡ rampOf state (now (values .entry)) dest voice (now (out .entry)) .out) ⌝ }
+    ensures { λ r. ⌜ (r ≡ rampOf state (now (values .entry)) dest voice (now (out .entry)) .answer)
+        × (now (out .exit) ≡ rampOf state (now (values .entry)) dest voice (now (out .entry)) .out) ⌝ }
 {
     let config = state.config;
     let code = code(
@@ -663,7 +671,8 @@ fn write_lanes(
     out: &mut [f32],
 )
     requires { ⌜ (a ≤ mostStart) × (1 ≤ spot .width) × (voices ≤ mostVoices) ⌝ }
-    ensures { λ _. ⌜ now (out .exit) ≡ fill (now (out .entry)) (laneNumber (now (mem .entry)) a spot k active voices) (length (now (out .entry))) ⌝ }
+    ensures { λ _. ⌜ now (out .exit) ≡ fill (now (out .entry))
+        (laneNumber (now (mem .entry)) a spot k active voices) (length (now (out .entry))) ⌝ }
 {
     let mut v = 0usize;
     while v < out.len() {
@@ -691,7 +700,9 @@ fn write_latest(
     out: &mut [f32],
 )
     requires { ⌜ Bounded spot × (voices ≤ mostVoices) ⌝ }
-    ensures { λ _. ⌜ now (out .exit) ≡ fill (now (out .entry)) (latestBy (now (values .entry)) (now (audio .entry)) spot last active voices) (length (now (out .entry))) ⌝ }
+    ensures { λ _. ⌜ now (out .exit) ≡ fill (now (out .entry))
+        (latestBy (now (values .entry)) (now (audio .entry)) spot last active voices)
+        (length (now (out .entry))) ⌝ }
 {
     if !last.some {
         write_none(out);
@@ -719,7 +730,8 @@ fn write_row(
     e: usize,
 )
     requires { ⌜ (a ≤ e) × (e ≤ length (now out)) ⌝ }
-    ensures { λ _. ⌜ now (out .exit) ≡ onPart (now (out .entry)) a e (latestRow state (now (values .entry)) (now (audio .entry)) (e - a) dest) ⌝ }
+    ensures { λ _. ⌜ now (out .exit) ≡ onPart (now (out .entry)) a e
+        (latestRow state (now (values .entry)) (now (audio .entry)) (e - a) dest) ⌝ }
 {
     let spot = spot_of(state, dest);
     let block = state.block;
@@ -734,7 +746,8 @@ fn write_row(
 // those of the first destinations, n numbers each
 fn write_rows(state: State, values: &[f32], audio: &[f32], n: usize, dests: usize, out: &mut [f32])
     requires { ⌜ n * dests ≤ length (now out) ⌝ }
-    ensures { λ _. ⌜ now (out .exit) ≡ onPart (now (out .entry)) 0 (n * dests) (latestRows state (now (values .entry)) (now (audio .entry)) n (upFrom 0 dests)) ⌝ }
+    ensures { λ _. ⌜ now (out .exit) ≡ onPart (now (out .entry)) 0 (n * dests)
+        (latestRows state (now (values .entry)) (now (audio .entry)) n (upFrom 0 dests)) ⌝ }
 {
     let mut d = 0usize;
     while d < dests {
@@ -767,7 +780,9 @@ fn out_short(len: usize, n: usize, dests: usize) -> bool
 
 // every destination's latest number for each of so many voices
 pub fn latest_all(state: State, values: &[f32], audio: &[f32], voices: usize, out: &mut [f32]) -> u8
-    ensures { λ r. ⌜ (r ≡ latestAll state (now (values .entry)) (now (audio .entry)) voices (now (out .entry)) .code) × (now (out .exit) ≡ latestAll state (now (values .entry)) (now (audio .entry)) voices (now (out .entry)) .out) ⌝ }
+    ensures { λ r. ⌜ (r ≡ latestAll state (now (values .entry)) (now (audio .entry)) voices
+        (now (out .entry)) .code) × (now (out .exit) ≡ latestAll state (now (values .entry))
+        (now (audio .entry)) voices (now (out .entry)) .out) ⌝ }
 {
     if short(state, values.len(), audio.len()) {
         return 14;

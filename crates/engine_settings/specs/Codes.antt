@@ -1,4 +1,5 @@
--- The rows of an engine's making, its settings and its swap by numbers: counts as they are kept, lent memories by their lengths. Definitions only.
+-- The rows of an engine's making, its settings and its swap by numbers: counts as they are kept, lent memories by their
+-- lengths. Definitions only.
 use mathlib.Core.Bool.{Bool, not, _&&_, _||_}
 use mathlib.Core.List.{[], _∷_, _++_}
 use Prim.Native.Nat.{ℕ, _*_, min}
@@ -23,29 +24,34 @@ newShort c n d held globals bases =
 unfoldable pub newCode : Config → ℕ → ℕ → ℕ → ℕ → ℕ → ℕ
 unfolding judged
 newCode c n d held globals bases =
-    judged (configRows (c .«sample_rate») (c .«max_frames») (c .voices) ++ (14 when newShort c n d held globals bases ∷ []))
+    judged (configRows (c .«sample_rate») (c .«max_frames») (c .voices) ++
+    (14 when newShort c n d held globals bases ∷ []))
 
 unfoldable pub heldCode : Config → ℕ → ℕ → ℕ → ℕ → Float → ℕ
 unfolding judged
 heldCode c n held globals i x =
-    judged (3 when leb (min n mostSources) i ∷ 6 when not (finite x) ∷ 14 when (ltb held (heldNeed c n) || ltb globals (min n mostSources)) ∷ [])
+    judged (3 when leb (min n mostSources) i ∷ 6 when not (finite x)
+    ∷ 14 when (ltb held (heldNeed c n) || ltb globals (min n mostSources)) ∷ [])
 
 unfoldable pub voiceHeldCode : Config → ℕ → ℕ → ℕ → ℕ → Float → ℕ
 unfolding judged
 voiceHeldCode c n held i v x =
     judged
-    (2 when leb (laneStride (min (c .voices) mostVoices)) v ∷ 3 when leb (min n mostSources) i ∷ 6 when not (finite x) ∷ 14 when ltb held (heldNeed c n) ∷ [])
+    (2 when leb (laneStride (min (c .voices) mostVoices)) v ∷ 3 when leb (min n mostSources) i ∷ 6 when not (finite x)
+    ∷ 14 when ltb held (heldNeed c n) ∷ [])
 
 unfoldable pub baseCode : ℕ → ℕ → ℕ → Float → ℕ
 unfolding judged
 baseCode n bases d x =
-    judged (4 when leb (min n mostDestinations) d ∷ 6 when not (finite x) ∷ 14 when ltb bases (min n mostDestinations) ∷ [])
+    judged (4 when leb (min n mostDestinations) d ∷ 6 when not (finite x) ∷ 14 when ltb bases (min n mostDestinations)
+    ∷ [])
 
 unfoldable pub gainCode : ℕ → Float → ℕ
 unfolding judged
 gainCode n x = judged (5 when leb slots n ∷ 6 when not (finite x) ∷ [])
 
--- whether the program's gains are finite; then of the engine's configuration and counts, and of the program's with its routes
+-- whether the program's gains are finite; then of the engine's configuration and counts, and of the program's with its
+-- routes
 unfoldable pub swapCode : Bool → Config → ℕ → ℕ → Config → ℕ → ℕ → ℕ → ℕ
 unfolding judged
 swapCode gains c n d c′ n′ d′ routes =

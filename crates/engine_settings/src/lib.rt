@@ -1,4 +1,5 @@
-// What an engine's making, its settings and its swap judge and write, by numbers and small structs (engine.rs 273-446). The definitions are in model's specs/Settings.
+// What an engine's making, its settings and its swap judge and write, by numbers and small structs (engine.rs 273-446).
+// The definitions are in model's specs/Settings.
 ghost use mathlib.Core.Path.{_≡_};
 ghost use mathlib.Core.Bool.{cond};
 ghost use mathlib.Core.List.{map};
@@ -8,8 +9,10 @@ ghost use Rattle.config.specs.Sizes.{mostSources, mostDestinations, mostVoices,
 ghost use Rattle.list.specs.Rows.{onRow};
 ghost use Rattle.model.specs.Feeds.{isVoice};
 ghost use Rattle.model.specs.World.{noMark};
-ghost use Rattle.model.specs.Settings.{markOf, refusedState, withAmount, withOutput, sameConfig, everyFinite, gainsFinite};
-ghost use Rattle.engine_settings.specs.Codes.{newShort, newCode, heldCode, voiceHeldCode, baseCode, gainCode, swapCode};
+ghost use Rattle.model.specs.Settings.{markOf, refusedState, withAmount, withOutput, sameConfig, everyFinite};
+ghost use Rattle.model.specs.Settings.{gainsFinite};
+ghost use Rattle.engine_settings.specs.Codes.{newShort, newCode, heldCode, voiceHeldCode, baseCode, gainCode};
+ghost use Rattle.engine_settings.specs.Codes.{swapCode};
 ghost use Rattle.engine_settings.specs.Fresh.{freshOf};
 use config::Config;
 use config::DESTINATIONS;
@@ -257,7 +260,8 @@ pub fn gains_finite(gains: Gains) -> bool
     every_finite(output)
 }
 
-// rows 6, 7 and 8 of `swap`: whether the program's gains are finite; the engine's configuration and counts, and the program's
+// rows 6, 7 and 8 of `swap`: whether the program's gains are finite; the engine's configuration and counts, and the
+// program's
 pub fn swap_code(
     gains: bool,
     config: Config,
@@ -310,8 +314,10 @@ pub fn write_held(
     value: f32,
 )
     requires { ⌜ (source * w + w ≤ length (now held)) × (source < length (now globals)) ⌝ }
-    ensures rows { λ _. ⌜ now (held .exit) ≡ cond voice (onRow (now (held .entry)) w source (replicate w value)) (now (held .entry)) ⌝ }
-    ensures single { λ _. ⌜ now (globals .exit) ≡ cond voice (now (globals .entry)) (set (now (globals .entry)) source value) ⌝ }
+    ensures rows { λ _. ⌜ now (held .exit) ≡ cond voice (onRow (now (held .entry)) w source (replicate w value))
+        (now (held .entry)) ⌝ }
+    ensures single { λ _. ⌜ now (globals .exit) ≡ cond voice (now (globals .entry))
+        (set (now (globals .entry)) source value) ⌝ }
 {
     if voice {
         fill_row(held, w, source, value);

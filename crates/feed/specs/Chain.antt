@@ -10,7 +10,8 @@ abbrev pub Along : (ℕ → ℕ → Bool) → ℕ → List ℕ → ℕ → Type 
 Along feeds a [] e = feeds a e ≡ true
 Along feeds a (b ∷ l) e = (feeds a b ≡ true) × Along feeds b l e
 
--- two or more distinct ones of the things, each of which feeds the next, and the last the first; one that feeds itself makes no chain
+-- two or more distinct ones of the things, each of which feeds the next, and the last the first; one that feeds itself
+-- makes no chain
 pub record Chain (feeds : ℕ → ℕ → Bool) (things : List ℕ) : Type 0 where
   pub first : ℕ
   pub second : ℕ

@@ -1,4 +1,5 @@
-// How much memory a program needs (docs/CALLS.md, Memories; document 01, row 14). The definitions are in model's specs/Need; counts above their limits count as these.
+// How much memory a program needs (docs/CALLS.md, Memories; document 01, row 14). The definitions are in model's
+// specs/Need; counts above their limits count as these.
 ghost use mathlib.Core.Path.{_≡_};
 ghost use Prim.Native.Nat.{_≤_, min};
 ghost use Rattle.config.specs.Sizes.{slots, mostVoices, mostFrames, mostChunks};
@@ -7,7 +8,8 @@ use config::FRAMES;
 
 // what the values of a program take
 pub fn values(voices: usize, frames: usize, plans: usize, routes: usize) -> usize
-    ensures { λ r. ⌜ r ≡ valuesNeed (min voices mostVoices) (min frames mostFrames) (min plans slots) (min routes slots) ⌝ }
+    ensures { λ r. ⌜ r ≡ valuesNeed (min voices mostVoices) (min frames mostFrames) (min plans slots)
+        (min routes slots) ⌝ }
 {
     config::lane_stride(voices)
         * rows(

@@ -1,5 +1,5 @@
--- A list whose elements below i are given by a function of the index, the others as they were: what a loop that stores one element a turn leaves.
--- Definitions only.
+-- A list whose elements below i are given by a function of the index, the others as they were: what a loop that stores
+-- one element a turn leaves. Definitions only.
 use mathlib.Core.Path.{_≡_, refl}
 use mathlib.Core.List.{List, [], _∷_}
 use Prim.Native.Nat.{ℕ, zero, suc, _+_}

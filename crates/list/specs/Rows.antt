@@ -1,7 +1,7 @@
--- A memory as rows of w lanes one after the other, and as planes of n such rows. Definitions only.
--- A plane of n rows of w lanes is a row of n * w lanes; row r of plane p is row `inRow n p r` of the memory. So a memory in which each of some
--- things has n rows, and after b rows each of some other things m rows, has the k-th row of the first kind's p-th at `inRow n p k` and of the
--- second kind's q-th at `b + inRow m q k`.
+-- A memory as rows of w lanes one after the other, and as planes of n such rows. Definitions only. A plane of n rows of
+-- w lanes is a row of n * w lanes; row r of plane p is row `inRow n p r` of the memory. So a memory in which each of
+-- some things has n rows, and after b rows each of some other things m rows, has the k-th row of the first kind's p-th
+-- at `inRow n p k` and of the second kind's q-th at `b + inRow m q k`.
 use mathlib.Core.Path.{_≡_, refl}
 use mathlib.Core.List.{List, [], _∷_}
 use Prim.Native.Nat.{ℕ, _+_, _*_}

@@ -57,7 +57,8 @@ pub fn copy_part(mem: &mut [f32], a: usize, e: usize, xs: &[f32])
 // The n numbers at `to` become those at `from`, where the two parts lie apart.
 pub fn copy_within(mem: &mut [f32], from: usize, to: usize, n: usize)
     requires { ⌜ (from + n ≤ length (now mem)) × (to + n ≤ length (now mem)) × ((from + n ≤ to) ⊎ (to + n ≤ from)) ⌝ }
-    ensures { λ _. ⌜ now (mem .exit) ≡ onPart (now (mem .entry)) to (to + n) (part (now (mem .entry)) from (from + n)) ⌝ }
+    ensures { λ _. ⌜ now (mem .exit) ≡ onPart (now (mem .entry)) to (to + n)
+        (part (now (mem .entry)) from (from + n)) ⌝ }
 {
     let mut i = 0usize;
     while i < n {

@@ -16,7 +16,8 @@ use Rattle.state.specs.declared.Polarity.{Polarity}
 use Rattle.state.specs.declared.NoteCurve.the-variants as N
 use Rattle.state.specs.declared.Slot.{Slot}
 use Rattle.state.specs.declared.Matrix.{Matrix}
-use Rattle.slots.specs.Slots.{emptySlot, firstEmpty, routeSlot, keptAmount, keptOutput, cleared, countAims, numbersFinite, allFinite, withAmount, withOutput, withBypass, withPolarity, withAux}
+use Rattle.slots.specs.Slots.{emptySlot, firstEmpty, routeSlot, keptAmount, keptOutput, cleared, countAims}
+use Rattle.slots.specs.Slots.{numbersFinite, allFinite, withAmount, withOutput, withBypass, withPolarity, withAux}
 use Rattle.slots_tables.specs.Tables.{tablesNeed, withTable, withTables, namesTable, namedAllowed}
 use Rattle.slots_tables.specs.Rows.{finiteRow, tableRows, curveAllowed}
 use Rattle.matrix_sorting.specs.Keys.{keyOf}
@@ -54,7 +55,8 @@ edited rows m n f = answered (judged rows) m (withSlot m n (f (slotOf m n)))
 unfoldable pub placed : ℕ → Matrix → ℕ → Slot → Placed
 placed code m i s =
     cond (eqb code 0)
-    (cond (ltb i slots) (record { code = 0; place = P.At i; matrix = withSlot m i s }) (record { code = 0; place = P.Full; matrix = m }))
+    (cond (ltb i slots) (record { code = 0; place = P.At i; matrix = withSlot m i s })
+    (record { code = 0; place = P.Full; matrix = m }))
     (record { code = code; place = P.Refused; matrix = m })
 
 -- the answer of a call to which tables are lent, and those tables afterwards
@@ -138,7 +140,8 @@ setCurve m tables n which t rise fall =
 -- the field note_curves (matrix.rs 143; curve.rs 113-118)
 unfoldable pub setNoteCurve : Matrix → List Float → NoteSlot → List Float → WithTables
 setNoteCurve m tables which t =
-    tabled (judged (tableRows (allAllowed t) tables t)) m (withNote m which N.Table) tables (withTable tables (notePlace which) t)
+    tabled (judged (tableRows (allAllowed t) tables t)) m (withNote m which N.Table) tables
+    (withTable tables (notePlace which) t)
 
 abbrev pub bySource : SortBy → Bool
 bySource S.Source = true

@@ -1,4 +1,5 @@
--- The public calls that make a route for the editor (matrix.rs 350-441; document 01, row 6; docs/CALLS.md). Definitions only.
+-- The public calls that make a route for the editor (matrix.rs 350-441; document 01, row 6; docs/CALLS.md). Definitions
+-- only.
 use mathlib.Core.Bool.{Bool, false, cond}
 use mathlib.Core.List.{List, [], _∷_}
 use Prim.Native.Nat.{ℕ}
@@ -37,7 +38,8 @@ dragPolarity at toggle =
 
 -- matrix.rs 433-441; a refused call answers 0
 unfoldable pub limitDepth : Float → Polarity → Float → Depth
-limitDepth at p x = cond (bothFinite at x) (record { code = 0; amount = depthAt at p x }) (record { code = 6; amount = zero32 })
+limitDepth at p x =
+    cond (bothFinite at x) (record { code = 0; amount = depthAt at p x }) (record { code = 6; amount = zero32 })
 
 -- ---- routes with a name
 

@@ -1,4 +1,5 @@
--- The curve that a call names: replaced, and the place of its table (matrix.rs 300-307; docs/CALLS.md, Memories). Definitions only.
+-- The curve that a call names: replaced, and the place of its table (matrix.rs 300-307; docs/CALLS.md, Memories).
+-- Definitions only.
 use Prim.Native.Nat.{ℕ}
 use Rattle.curve_table.specs.declared.Curve.{Curve}
 use Rattle.state.specs.declared.NoteCurve.{NoteCurve}

@@ -1,4 +1,5 @@
-// The matrix as data: its slots, their edits, and the tables lent with them. The definitions that contracts cite are in specs/.
+// The matrix as data: its slots, their edits, and the tables lent with them. The definitions that contracts cite are in
+// specs/.
 ghost use mathlib.Core.Path.{_≡_};
 ghost use mathlib.Core.List.{[], _∷_};
 ghost use Prim.Native.Nat.{_<_};
@@ -9,9 +10,13 @@ ghost use Rattle.slots_tables.specs.Tables.{places};
 ghost use Rattle.slots.specs.Matrix.{newMatrix, slotsOf, withSlot};
 ghost use Rattle.matrix.specs.Which.{withCurve, withNote, placeOf, notePlace};
 ghost use Rattle.slots_tables.specs.Rows.{finiteRow};
-ghost use Rattle.matrix.specs.Edits.{slotRow, answered, placed, slotAt, setSlot, addRoute, removeSlot, setBypass, setSlotAmount, setSlotOutput, setPolarity, setAux, setLinear, removeDestination, setGlide, setVelocityLegato, setNoteLinear, setCurve, setNoteCurve, matrixAllowed, bySource, sortSlots, loadMatrix};
+ghost use Rattle.matrix.specs.Edits.{slotRow, answered, placed, slotAt, setSlot, addRoute, removeSlot, setBypass};
+ghost use Rattle.matrix.specs.Edits.{setSlotAmount, setSlotOutput, setPolarity, setAux, setLinear};
+ghost use Rattle.matrix.specs.Edits.{removeDestination, setGlide, setVelocityLegato, setNoteLinear, setCurve};
+ghost use Rattle.matrix.specs.Edits.{setNoteCurve, matrixAllowed, bySource, sortSlots, loadMatrix};
 ghost use Rattle.matrix.specs.Replies.{placedReply, addSays, dragSays, vibratoSays};
-ghost use Rattle.matrix.specs.Routes.{dragRoute, addVibrato, createVibrato, createVelocityToAmp, dragPolarity, limitDepth};
+ghost use Rattle.matrix.specs.Routes.{dragRoute, addVibrato, createVibrato, createVelocityToAmp, dragPolarity};
+ghost use Rattle.matrix.specs.Routes.{limitDepth};
 use config::SLOTS;
 use curve_table::Curve;
 use slots_tables::KEY_PLACE;
@@ -501,7 +506,8 @@ pub fn set_curve(
     fall: f32,
 ) -> Edited
     ensures answer { λ r. ⌜ r ≡ setCurve matrix (now (tables .entry)) n which (now (table .entry)) rise fall .answer ⌝ }
-    ensures lent { λ _. ⌜ now (tables .exit) ≡ setCurve matrix (now (tables .entry)) n which (now (table .entry)) rise fall .tables ⌝ }
+    ensures lent { λ _. ⌜ now (tables .exit) ≡ setCurve matrix (now (tables .entry)) n which
+        (now (table .entry)) rise fall .tables ⌝ }
 {
     let allowed = slots_tables::curve_allowed(table, rise, fall);
     let code = refusal::first(
@@ -520,7 +526,8 @@ pub fn set_curve(
 // that note curve becomes a table
 pub fn set_note_curve(matrix: Matrix, tables: &mut [f32], which: NoteSlot, table: &[f32]) -> Edited
     ensures answer { λ r. ⌜ r ≡ setNoteCurve matrix (now (tables .entry)) which (now (table .entry)) .answer ⌝ }
-    ensures lent { λ _. ⌜ now (tables .exit) ≡ setNoteCurve matrix (now (tables .entry)) which (now (table .entry)) .tables ⌝ }
+    ensures lent { λ _. ⌜ now (tables .exit) ≡ setNoteCurve matrix (now (tables .entry)) which
+        (now (table .entry)) .tables ⌝ }
 {
     let code = slots_tables::rows_of_table(
         curve_table::numbers_allowed(table),
@@ -593,7 +600,8 @@ pub fn sort(matrix: Matrix, tables: &mut [f32], by: SortBy) -> Edited
 // the matrix becomes the other, its tables with it
 pub fn load(matrix: Matrix, tables: &mut [f32], other: Matrix, other_tables: &[f32]) -> Edited
     ensures answer { λ r. ⌜ r ≡ loadMatrix matrix (now (tables .entry)) other (now («other_tables» .entry)) .answer ⌝ }
-    ensures lent { λ _. ⌜ now (tables .exit) ≡ loadMatrix matrix (now (tables .entry)) other (now («other_tables» .entry)) .tables ⌝ }
+    ensures lent { λ _. ⌜ now (tables .exit) ≡ loadMatrix matrix (now (tables .entry)) other
+        (now («other_tables» .entry)) .tables ⌝ }
 {
     if !matrix_allowed(other, other_tables) {
         return Edited { code: 6, matrix };

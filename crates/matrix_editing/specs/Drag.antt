@@ -1,4 +1,5 @@
--- What dragging a source onto a control makes: the polarity and the amount of its route (matrix.rs 350-365, 416-441). Definitions only.
+-- What dragging a source onto a control makes: the polarity and the amount of its route (matrix.rs 350-365, 416-441).
+-- Definitions only.
 use mathlib.Core.Bool.{Bool, false, not, cond, _&&_}
 use lib.IntN.{negsuc}
 use lib.Ieee.{Float, fin, neg, le}

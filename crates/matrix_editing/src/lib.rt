@@ -1,6 +1,8 @@
-// What dragging onto a control makes of it, and the LFOs that no slot uses. The definitions that contracts cite are in specs/.
+// What dragging onto a control makes of it, and the LFOs that no slot uses. The definitions that contracts cite are in
+// specs/.
 ghost use mathlib.Core.Path.{_≡_};
-ghost use Rattle.matrix_editing.specs.Drag.{bothFinite, centred, twoWay, polarityAt, oneWayRoom, roomAt, depthAt, draggedAmount};
+ghost use Rattle.matrix_editing.specs.Drag.{bothFinite, centred, twoWay, polarityAt, oneWayRoom, roomAt, depthAt};
+ghost use Rattle.matrix_editing.specs.Drag.{draggedAmount};
 ghost use Rattle.matrix_editing.specs.Free.{picksSource, inUse, firstFree};
 use config::SLOTS;
 use state::Pick;

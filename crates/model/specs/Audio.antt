@@ -1,4 +1,5 @@
--- The audio rows of a chunk: frame after frame, slews moving by one sample (engine.rs 940-1006, 1224-1294; document 01, Chunk and value). Definitions only.
+-- The audio rows of a chunk: frame after frame, slews moving by one sample (engine.rs 940-1006, 1224-1294; document 01,
+-- Chunk and value). Definitions only.
 use mathlib.Core.Bool.{Bool, true, false, not, cond, _&&_, _||_}
 use mathlib.Core.List.{List}
 use Prim.Native.Nat.{ℕ, zero, suc, _+_, _-_}

@@ -18,7 +18,8 @@ use Rattle.model.specs.Counts.{strideOf, engineSources, engineDests}
 use Rattle.model.specs.World.{World}
 use Rattle.refusal.specs.Judge.{Row}
 use Rattle.model.specs.Process.{process, processRows}
-use Rattle.model.specs.Settings.{freshState, heldRows, voiceHeldRows, baseRows, gainRows, swapRows, setHeld, setVoiceHeld, setBase, setAmount, setOutput, setVoiceLimit, swapProgram}
+use Rattle.model.specs.Settings.{freshState, heldRows, voiceHeldRows, baseRows, gainRows, swapRows, setHeld}
+use Rattle.model.specs.Settings.{setVoiceHeld, setBase, setAmount, setOutput, setVoiceLimit, swapProgram}
 use Rattle.model.specs.NoteCalls.{Note, noteOnRows, noteOffRows, voiceEndedRows, noteOn, noteOff, voiceEnded}
 
 pub data Call : Type 0 where
@@ -106,7 +107,12 @@ exchanged r k p =
           };
       kept =
           set (r .kept) (r .installed)
-          (record { program = r .world .state .program; values = r .world .values; audio = r .world .audio; tables = r .world .tables });
+          (record {
+            program = r .world .state .program;
+            values = r .world .values;
+            audio = r .world .audio;
+            tables = r .world .tables;
+          });
       installed = k;
     }
 
@@ -127,7 +133,15 @@ swapped r k =
 
 abbrev pub lentValues : World → List Float → List Float → List Float → World
 lentValues w values audio tables =
-    record { state = w .state; held = w .held; globals = w .globals; bases = w .bases; values = values; audio = audio; tables = tables }
+    record {
+      state = w .state;
+      held = w .held;
+      globals = w .globals;
+      bases = w .bases;
+      values = values;
+      audio = audio;
+      tables = tables;
+    }
 
 abbrev pub programArrives : Runner → ℕ → List Float → List Float → List Float → Runner
 programArrives r k values audio tables =
@@ -140,7 +154,15 @@ programArrives r k values audio tables =
 
 abbrev pub engineArrives : World → List Float → List Float → List Float → World
 engineArrives w held globals bases =
-    record { state = w .state; held = held; globals = globals; bases = bases; values = w .values; audio = w .audio; tables = w .tables }
+    record {
+      state = w .state;
+      held = held;
+      globals = globals;
+      bases = bases;
+      values = w .values;
+      audio = w .audio;
+      tables = w .tables;
+    }
 
 -- one call
 abbrev pub called : Call → Runner → Runner

@@ -1,5 +1,6 @@
--- Document 01, "Checked by hand": the worked cases, as one table. Each has its number, what the definitions give, and what document 01 says; a binary32
--- stands by its bits. Definitions only; that each case holds is the one theorem of proofs/CasesHold.antt.
+-- Document 01, "Checked by hand": the worked cases, as one table. Each has its number, what the definitions give, and
+-- what document 01 says; a binary32 stands by its bits. Definitions only; that each case holds is the one theorem of
+-- proofs/CasesHold.antt.
 use mathlib.Core.Bool.{true, false, cond}
 use mathlib.Core.List.{List, [], _∷_, _++_, map}
 use Prim.Native.Nat.{ℕ, suc}
@@ -76,7 +77,8 @@ case8 =
       expected = 0 ∷ 0x3f00_0000 ∷ 0x3f80_0000 ∷ 0 ∷ [];
     }
 
--- ---- wirings: sources without keys, destinations from 0 to 1 at control rate, slots with a source, an amount and a destination
+-- ---- wirings: sources without keys, destinations from 0 to 1 at control rate, slots with a source, an amount and a
+-- destination
 
 abbrev pub source : Kind → Range → Source
 source k r = record { key = []; len = 0; kind = k; scope = S.Global; range = r }
@@ -114,7 +116,8 @@ wired ss ds l =
 abbrev pub feeding : List Slot → Wiring
 feeding l =
     let held = source K.Held R.Unipolar in
-    wired (held ∷ held ∷ held ∷ source K.Constant R.Unipolar ∷ []) (dest 0 (F.Source 0) ∷ dest 1 (F.Source 1) ∷ dest 2 (F.Source 2) ∷ []) l
+    wired (held ∷ held ∷ held ∷ source K.Constant R.Unipolar ∷ [])
+    (dest 0 (F.Source 0) ∷ dest 1 (F.Source 1) ∷ dest 2 (F.Source 2) ∷ []) l
 
 -- the destinations of the plans in their order
 abbrev ordered : Wiring → List ℕ
@@ -125,11 +128,13 @@ route i n = slot i n one32 Q.Unipolar
 
 -- "Feeds 2→0, 1→2 (a→b: b reads a): order 1, 2, 0."
 unfoldable pub case1 : Case
-case1 = record { number = 1; found = ordered (feeding (route 2 0 ∷ route 3 1 ∷ route 1 2 ∷ [])); expected = 1 ∷ 2 ∷ 0 ∷ [] }
+case1 =
+    record { number = 1; found = ordered (feeding (route 2 0 ∷ route 3 1 ∷ route 1 2 ∷ [])); expected = 1 ∷ 2 ∷ 0 ∷ [] }
 
 -- "Feeds 0→1, 1→0, 2 free: order 2, 0, 1."
 unfoldable pub case2 : Case
-case2 = record { number = 2; found = ordered (feeding (route 1 0 ∷ route 0 1 ∷ route 3 2 ∷ [])); expected = 2 ∷ 0 ∷ 1 ∷ [] }
+case2 =
+    record { number = 2; found = ordered (feeding (route 1 0 ∷ route 0 1 ∷ route 3 2 ∷ [])); expected = 2 ∷ 0 ∷ 1 ∷ [] }
 
 -- "Voices 0, 16, 17: stride 16, 16, 32."
 unfoldable pub case3 : Case
@@ -186,13 +191,16 @@ case11 =
       expected = 0x3f80_0000 ∷ 0xbf80_0000 ∷ 0x3fc0_0000 ∷ [];
     }
 
--- ---- lists of calls: a constant source into global control 0, from 0 to 1, base 0.25, amount 0.5, output 1, voices 1, frames 64
+-- ---- lists of calls: a constant source into global control 0, from 0 to 1, base 0.25, amount 0.5, output 1, voices 1,
+-- frames 64
 
--- what the program `cases` prints of control destination 0 after the last block: start, length, phase, tick, from and to of each chunk
+-- what the program `cases` prints of control destination 0 after the last block: start, length, phase, tick, from and
+-- to of each chunk
 abbrev printedChunk : Runner → ℕ → Chunk → List ℕ
 printedChunk r i c =
     let st = r .world .state in
-    c .start ∷ c .len ∷ c .phase ∷ cond (c .tick) 1 0 ∷ bits (at (r .world .values) (fromStart st 0 i) ∷ at (r .world .values) (toStart st 0 i) ∷ [])
+    c .start ∷ c .len ∷ c .phase ∷ cond (c .tick) 1 0 ∷ bits
+    (at (r .world .values) (fromStart st 0 i) ∷ at (r .world .values) (toStart st 0 i) ∷ [])
 
 abbrev printedFrom : Runner → ℕ → List Chunk → List ℕ
 printedFrom r i [] = []
@@ -204,7 +212,13 @@ printed r = printedFrom r 0 (chunkList (r .world .state .block))
 abbrev constant : Wiring
 constant =
     record {
-      matrix = record { slot = slot 0 0 half32 Q.Unipolar ∷ []; velocity = N.Linear; key = N.Linear; glide = false; «velocity_legato» = false };
+      matrix = record {
+        slot = slot 0 0 half32 Q.Unipolar ∷ [];
+        velocity = N.Linear;
+        key = N.Linear;
+        glide = false;
+        «velocity_legato» = false;
+      };
       sources = record { count = 1; entry = source K.Constant R.Unipolar ∷ [] };
       dests = record { count = 1; entry = dest 0 F.Nothing ∷ [] };
       config = record { «sample_rate» = fin false 1 (pos 6); «max_frames» = 64; voices = 1 };
@@ -228,7 +242,8 @@ case5 =
       expected = 0 ∷ 32 ∷ 0 ∷ 1 ∷ 0x3f40_0000 ∷ 0x3f40_0000 ∷ 32 ∷ 32 ∷ 0 ∷ 1 ∷ 0x3f40_0000 ∷ 0x3f40_0000 ∷ [];
     }
 
--- "Range 0 to 5 with no program; note on, voice ended; swap in case 5; range 0 to 27: one tick at phase 5, 0.75 to 0.75. Without the note: no tick, 0 to 0."
+-- "Range 0 to 5 with no program; note on, voice ended; swap in case 5; range 0 to 27: one tick at phase 5, 0.75 to
+-- 0.75. Without the note: no tick, 0 to 0."
 abbrev note : Call
 note = note-on 0 (record { key = zero32; velocity = one32; legato = false; glide-seconds = zero32 })
 

@@ -1,5 +1,5 @@
--- The chunks of a block (engine.rs 563-579; document 01, Chunk and value: "Chunks end at period edges. One ticks at phase 0, or when first while the
--- 'any fresh' mark is set"). Definitions only.
+-- The chunks of a block (engine.rs 563-579; document 01, Chunk and value: "Chunks end at period edges. One ticks at
+-- phase 0, or when first while the 'any fresh' mark is set"). Definitions only.
 use mathlib.Core.Path.{_≡_, refl}
 use mathlib.Core.Bool.{Bool, true, false, cond, _&&_, _||_}
 use mathlib.Core.List.{List, [], _∷_, map}
@@ -38,6 +38,8 @@ unfolding chunkTotal chunkOf
 chunkList b = map (chunkOf b) (upFrom 0 (chunkTotal b))
 
 -- document 01, case 4: phase 5, range 0 to 64: lengths 27, 32, 5; starts 0, 27, 59
-case-4 : chunkList (record { start = 0; end = 64; phase = 5; «first_tick» = false }) ≡ record { start = 0; len = 27; phase = 5; tick = false } ∷ record { start = 27; len = 32; phase = 0; tick = true } ∷ record { start = 59; len = 5; phase = 0; tick = true } ∷ []
+case-4 : chunkList (record { start = 0; end = 64; phase = 5; «first_tick» = false })
+    ≡ record { start = 0; len = 27; phase = 5; tick = false } ∷ record { start = 27; len = 32; phase = 0; tick = true }
+    ∷ record { start = 59; len = 5; phase = 0; tick = true } ∷ []
 unfolding chunkList chunkTotal chunkOf
 case-4 = refl

@@ -1,5 +1,7 @@
--- THE CLAIM over every list of calls (document 01, demand 3 and The model): there is exactly one run of the model, and it is the definitions' run; and at each tick without a barred chain the
--- numbers that the definitions leave meet the rule in every lane of every control destination in use, and no others do. Definitions only; proved in proofs/Claim.antt.
+-- THE CLAIM over every list of calls (document 01, demand 3 and The model): there is exactly one run of the model, and
+-- it is the definitions' run; and at each tick without a barred chain the numbers that the definitions leave meet the
+-- rule in every lane of every control destination in use, and no others do. Definitions only; proved in
+-- proofs/Claim.antt.
 use mathlib.Core.Path.{_≡_}
 use mathlib.Core.Logic.{_≢_}
 use mathlib.Core.Bool.{Bool, true, false, cond}
@@ -27,13 +29,16 @@ use Rattle.model.specs.Tick.{tickOf}
 use Rattle.model.specs.Chunks.{chunkTotal, chunkOf}
 use Rattle.model.specs.World.{World}
 use Rattle.model.specs.Process.{envOf, snapOf, blockOf, loaded, drawn, chunkSteps}
-use Rattle.model.specs.Calls.{Call, held-set, voice-held-set, base-set, amount-set, output-set, limit-set, note-on, note-off, voice-ended, swap, block, program-memory, engine-memory, read, Runner, keptOf, startOf, programAt, called, run}
+use Rattle.model.specs.Calls.{Call, held-set, voice-held-set, base-set, amount-set, output-set, limit-set}
+use Rattle.model.specs.Calls.{note-on, note-off, voice-ended, swap, block, program-memory, engine-memory, read}
+use Rattle.model.specs.Calls.{Runner, keptOf, startOf, programAt, called, run}
 use Rattle.model.specs.Rule.{Values, lanesOf, ruled, Meets, Rule, Unbarred}
 use Rattle.model.specs.Model.{valuesIn, walks, Models}
 
 -- ---- the ticks of a list of calls, in order
 
--- one of them: what the installed program was compiled from, the engine, what is read, the phase, and the lent values before it
+-- one of them: what the installed program was compiled from, the engine, what is read, the phase, and the lent values
+-- before it
 pub record Moment : Type 0 where
   pub wiring : Wiring
   pub state : State
@@ -45,12 +50,19 @@ pub record Moment : Type 0 where
 abbrev pub tickAt : Wiring → List Float → Signals → Block → ℕ → World → List Moment
 tickAt w samples signals b n u =
     let c = chunkOf b n in
-    cond (c .tick) (record { wiring = w; state = u .state; env = envOf u samples signals c (snapOf n u); phase = c .phase; values = u .values } ∷ []) []
+    cond (c .tick) (record {
+      wiring = w;
+      state = u .state;
+      env = envOf u samples signals c (snapOf n u);
+      phase = c .phase;
+      values = u .values;
+    } ∷ []) []
 
 unfoldable pub chunkTicks : Wiring → List Float → Signals → Block → ℕ → World → List Moment
 unfolding chunkSteps
 chunkTicks w samples signals b zero u = []
-chunkTicks w samples signals b (suc n) u = chunkTicks w samples signals b n u ++ tickAt w samples signals b n (chunkSteps samples signals b n u)
+chunkTicks w samples signals b (suc n) u =
+    chunkTicks w samples signals b n u ++ tickAt w samples signals b n (chunkSteps samples signals b n u)
 
 abbrev pub blockTicks : Wiring → List Float → Signals → ℕ → ℕ → World → List Moment
 blockTicks w samples signals start end u =
@@ -68,7 +80,8 @@ callTicks names (note-on v n) r = []
 callTicks names (note-off v x) r = []
 callTicks names (voice-ended v) r = []
 callTicks names (swap k) r = []
-callTicks names (block samples signals start end) r = blockTicks (names (r .installed)) samples signals start end (r .world)
+callTicks names (block samples signals start end) r =
+    blockTicks (names (r .installed)) samples signals start end (r .world)
 callTicks names (program-memory k values audio tables) r = []
 callTicks names (engine-memory held globals bases) r = []
 callTicks names read r = []
@@ -79,7 +92,8 @@ ticksOf names (c ∷ cs) r = callTicks names c r ++ ticksOf names cs (called c r
 
 -- ---- chains
 
--- a test that says of what a program was compiled from whether a chain is barred: the order that the counted feeds themselves would give has no feeder behind what it feeds
+-- a test that says of what a program was compiled from whether a chain is barred: the order that the counted feeds
+-- themselves would give has no feeder behind what it feeds
 unfoldable pub chainless : Wiring → Bool
 unfolding order countedInto controls
 chainless w = ordered (countedInto w) (order (countedInto w) (controls w))
@@ -112,7 +126,8 @@ pub record Alone (Same : Float → Float → Type 0) (x : Moment) : Type 0 where
   -- what meets it is the same
   pub same : (to : Rows) → Meets Same (x .wiring) (x .env) (x .phase) (before x) to → Alike Same x to (after x .to)
   -- what differs in one lane of one destination breaks it somewhere
-  pub breaks : (to : Rows) (d l : ℕ) → In d (controls (x .wiring)) → l < lanesOf (x .wiring) (x .env) d → (Same (to d l) (after x .to d l) → ⊥) → Breaks Same x to
+  pub breaks : (to : Rows) (d l : ℕ) → In d (controls (x .wiring)) → l < lanesOf (x .wiring) (x .env) d
+      → (Same (to d l) (after x .to d l) → ⊥) → Breaks Same x to
 
 pub record Claimed (x : Moment) : Type 0 where
   -- numbers, ramps and slews
@@ -130,7 +145,8 @@ pub record Named (names : ℕ → Wiring) (r : Runner) : Type 0 where
   pub others : (k : ℕ) → k ≢ r .installed → programAt r k ≡ compiled (names k)
   pub slotted : (k : ℕ) → length (names k .matrix .slot) ≡ slots
 
--- the names of a fresh engine's programs: 0 is its own empty program, compiled from nothing; the given ones are 1, 2, ..
+-- the names of a fresh engine's programs: 0 is its own empty program, compiled from nothing; the given ones are 1, 2,
+-- ..
 abbrev pub nothingWired : Config → Wiring
 nothingWired c =
     record {

@@ -1,4 +1,5 @@
--- The calls that make a program (document 01, Plan and route, and rows 6, 13 and 14; program.rs 216-238; docs/CALLS.md, program). Definitions only.
+-- The calls that make a program (document 01, Plan and route, and rows 6, 13 and 14; program.rs 216-238; docs/CALLS.md,
+-- program). Definitions only.
 use mathlib.Core.Path.{_≡_, refl}
 use mathlib.Core.Bool.{Bool, false, cond, not, _&&_, _||_}
 use mathlib.Core.List.{List, [], _∷_, _++_}
@@ -56,7 +57,12 @@ emptyOf c =
 
 -- a refusal holds the empty program for rate 1, 0 frames, 0 voices
 abbrev pub answeredBy : ℕ → Program → Compiled
-answeredBy code p = record { code = code; program = cond (eqb code 0) p (emptyOf (record { «sample_rate» = one32; «max_frames» = 0; voices = 0 })) }
+answeredBy code p =
+    record {
+      code = code;
+      program = cond (eqb code 0) p
+          (emptyOf (record { «sample_rate» = one32; «max_frames» = 0; voices = 0 }));
+    }
 
 -- `empty`
 unfoldable pub emptyProgram : Config → Compiled
@@ -71,7 +77,8 @@ pub record Memories : Type 0 where
   pub audio : List Float
   pub tables : List Float
 
--- row 6: amounts, outputs and seconds of every slot, and the numbers of named tables; a sample rate that is not finite is the configuration's
+-- row 6: amounts, outputs and seconds of every slot, and the numbers of named tables; a sample rate that is not finite
+-- is the configuration's
 abbrev pub numbersAllowed : Matrix → List Float → Bool
 numbersAllowed m tables = allFinite (m .slot) && namedAllowed m tables
 
@@ -108,7 +115,8 @@ pub record Made : Type 0 where
 
 -- a refused call leaves the memories as they came
 abbrev pub madeBy : ℕ → Wiring → List Float → Memories → Made
-madeBy code w tables l = record { answer = answeredBy code (compiled w); lent = cond (eqb code 0) (madeIn w tables l) l }
+madeBy code w tables l =
+    record { answer = answeredBy code (compiled w); lent = cond (eqb code 0) (madeIn w tables l) l }
 
 unfoldable pub compile : Wiring → List Float → Memories → Made
 unfolding judged compiled emptyOf zeroed

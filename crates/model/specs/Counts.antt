@@ -1,9 +1,11 @@
--- The counts of a state, held to their limits (docs/CALLS.md, Counts of a state), and what stands under a number. Definitions only.
+-- The counts of a state, held to their limits (docs/CALLS.md, Counts of a state), and what stands under a number.
+-- Definitions only.
 use mathlib.Core.List.{List}
 use Prim.Native.Nat.{ℕ, _%_, min}
 use lib.ListN.{getD}
 use lib.Ieee.{Float, nan}
-use Rattle.config.specs.Sizes.{slots, mostSources, mostDestinations, mostVoices, mostFrames, period, laneStride, mostChunks}
+use Rattle.config.specs.Sizes.{slots, mostSources, mostDestinations, mostVoices, mostFrames, period, laneStride}
+use Rattle.config.specs.Sizes.{mostChunks}
 use Rattle.state.specs.declared.Plan.{Plan}
 use Rattle.state.specs.declared.Route.{Route}
 use Rattle.state.specs.declared.Program.{Program}

@@ -1,5 +1,5 @@
--- What a value in one lane is worked out from: everything that is read and not written while one destination is worked out, at one frame (engine.rs 781-794). No program
--- and no plan stands in it. Definitions only.
+-- What a value in one lane is worked out from: everything that is read and not written while one destination is worked
+-- out, at one frame (engine.rs 781-794). No program and no plan stands in it. Definitions only.
 use mathlib.Core.Bool.{Bool, true, false, not, cond, _&&_}
 use mathlib.Core.List.{List}
 use Prim.Native.Nat.{ℕ, _+_, _*_, max}
@@ -43,7 +43,8 @@ pub record Env : Type 0 where
 abbrev pub Rows : Type 0
 Rows = ℕ → ℕ → Float
 
--- the own numbers of the routes of one destination: of its route j the row q, in a lane. Rows 0 and 1 are the slews of source and aux, 2 and 3 the random inputs of source and aux
+-- the own numbers of the routes of one destination: of its route j the row q, in a lane. Rows 0 and 1 are the slews of
+-- source and aux, 2 and 3 the random inputs of source and aux
 abbrev pub Own : Type 0
 Own = ℕ → ℕ → ℕ → Float
 
@@ -89,5 +90,6 @@ inPart samples p n = cond (ltb n (p .len)) (at samples (p .at + n)) zero32
 
 -- a lane that the signal has not got is 0, and never the next frame's first
 unfoldable pub sampleIn : List Float → SignalPart → ℕ → Bool → ℕ → Float
-sampleIn samples p frame true lane = cond (ltb lane (partStride p)) (inPart samples p (frame * partStride p + lane)) zero32
+sampleIn samples p frame true lane =
+    cond (ltb lane (partStride p)) (inPart samples p (frame * partStride p + lane)) zero32
 sampleIn samples p frame false lane = inPart samples p (frame * partStride p)

@@ -1,6 +1,6 @@
--- Which destinations are in use, what they feed, and in which order they are worked out (document 01, Plan and route; program.rs 296-372). Two relations
--- stand side by side: `reads` goes by the feeder that is read, and gives the order; `countedInto` goes by every counted feed, read or not, and is
--- what demand 3 bars chains of. Definitions only.
+-- Which destinations are in use, what they feed, and in which order they are worked out (document 01, Plan and route;
+-- program.rs 296-372). Two relations stand side by side: `reads` goes by the feeder that is read, and gives the order;
+-- `countedInto` goes by every counted feed, read or not, and is what demand 3 bars chains of. Definitions only.
 use mathlib.Core.Bool.{Bool, true, false, cond, not, _&&_, _||_}
 use mathlib.Core.List.{List, [], _∷_, _++_, map}
 use Prim.Native.Nat.{ℕ}
@@ -66,7 +66,8 @@ isVoice S.Global = false
 abbrev pub heldGlobal : Source → Bool
 heldGlobal s = isHeld (s .kind) && not (isVoice (s .scope))
 
--- what is fed, where the feed counts: the thing whose number is then the base (program.rs 304-316, 378-383); a feed slot beyond the last is no slot
+-- what is fed, where the feed counts: the thing whose number is then the base (program.rs 304-316, 378-383); a feed
+-- slot beyond the last is no slot
 abbrev pub counted : Sources → Feed → Base
 counted ss F.Nothing = B.Set
 counted ss (F.Source i) = cond (knownSource ss i && heldGlobal (sourceAt ss i)) (B.Held i) B.Set
@@ -141,14 +142,16 @@ unfoldable pub isAudio : Wiring → ℕ → Bool
 unfolding candidates hearsAudio
 isAudio w d = audioIn (w .sources) (candidates w) d (destAt (w .dests) d)
 
--- ---- the feeder that is read: "Of several used destinations feeding one thing, the highest-numbered is read" (program.rs 317-326)
+-- ---- the feeder that is read: "Of several used destinations feeding one thing, the highest-numbered is read"
+-- (program.rs 317-326)
 
 abbrev pub destVoice : Wiring → ℕ → Bool
 destVoice w d = isVoice (destAt (w .dests) d .scope)
 
 -- the entry e, number d, as a destination in use
 abbrev pub usedAs : Sources → List Candidate → ℕ → Dest → Used
-usedAs ss cs d e = record { dest = d; voice = isVoice (e .scope); audio = audioIn ss cs d e; feed = counted ss (e .feed) }
+usedAs ss cs d e =
+    record { dest = d; voice = isVoice (e .scope); audio = audioIn ss cs d e; feed = counted ss (e .feed) }
 
 -- the destinations that the candidates name, each once, ascending
 abbrev pub usedIn : Sources → Destinations → List Candidate → List Used
@@ -161,7 +164,8 @@ usedDests w = usedIn (w .sources) (w .dests) (candidates w)
 -- the one found so far, unless a later one of the list feeds the thing
 abbrev pub lastFeeder : Base → Feeder → List Used → Feeder
 lastFeeder t found [] = found
-lastFeeder t found (u ∷ us) = let this = cond (sameThing (u .feed) t) (E.Dest (u .dest) (u .voice)) found in lastFeeder t this us
+lastFeeder t found (u ∷ us) =
+    let this = cond (sameThing (u .feed) t) (E.Dest (u .dest) (u .voice)) found in lastFeeder t this us
 
 -- the last of the list that feeds the thing
 abbrev pub feederIn : List Used → Base → Feeder
@@ -209,11 +213,13 @@ unfoldable pub reads : Wiring → ℕ → ℕ → Bool
 unfolding readersOf
 reads w a b = anyReads a b (readersOf w)
 
--- ---- every counted feed: "a feeds b if a's counted feed is onto a source, aux, amount or output of a route of b" (document 01, The model)
+-- ---- every counted feed: "a feeds b if a's counted feed is onto a source, aux, amount or output of a route of b"
+-- (document 01, The model)
 
 abbrev pub isOnto : Base → Candidate → Bool
 isOnto t c =
-    sameThing t (B.Held (c .source)) || (sameThing t (auxThing (c .aux)) || (sameThing t (B.Amount (c .slot)) || sameThing t (B.Output (c .slot))))
+    sameThing t (B.Held (c .source))
+    || (sameThing t (auxThing (c .aux)) || (sameThing t (B.Amount (c .slot)) || sameThing t (B.Output (c .slot))))
 
 abbrev pub anyOnto : Base → ℕ → List Candidate → Bool
 anyOnto t b [] = false
@@ -223,7 +229,8 @@ unfoldable pub countedInto : Wiring → ℕ → ℕ → Bool
 unfolding candidates countedFeed
 countedInto w a b = anyOnto (countedFeed w a) b (candidates w)
 
--- ---- THE ORDER OF THE PLANS: control destinations by the feeders that are read, then audio destinations by number (program.rs 358-372)
+-- ---- THE ORDER OF THE PLANS: control destinations by the feeders that are read, then audio destinations by number
+-- (program.rs 358-372)
 
 unfoldable pub controls : Wiring → List ℕ
 unfolding isAudio inUse

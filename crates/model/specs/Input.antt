@@ -50,4 +50,5 @@ slewed t snap prev (L.Limit up down) u = slewStep (reach up (t .steps)) (reach d
 -- THE INPUT's value, which is also its slew afterwards
 unfoldable pub inputIn : Env → Rows → ℕ → ℕ → Float → Float → Float → ℕ → Input → Float
 inputIn t f slot position snap prev random lane i =
-    slewed t snap prev (i .slew) (curved t slot position (i .table) (unipolar (i .bipolar) (readIn t f random lane (i .read))))
+    slewed t snap prev (i .slew) (curved t slot position (i .table)
+    (unipolar (i .bipolar) (readIn t f random lane (i .read))))

@@ -1,4 +1,5 @@
--- Which lanes a route is worked out in, and which it is added to (engine.rs 803-841, 1296-1343; document 01, Chunk and value). Definitions only.
+-- Which lanes a route is worked out in, and which it is added to (engine.rs 803-841, 1296-1343; document 01, Chunk and
+-- value). Definitions only.
 use mathlib.Core.Bool.{Bool, true, false, cond, _&&_, _||_}
 use mathlib.Core.List.{List}
 use Prim.Native.Nat.{ℕ, zero, suc, _+_, _-_, _*_, _/_}
@@ -33,7 +34,8 @@ sounding t = anyFrom (marks t) 0 (t .stride)
 
 -- the lane's group lies in the active span: from the first group with an active voice to the last
 unfoldable pub inSpan : Env → ℕ → Bool
-inSpan t lane = anyFrom (marks t) 0 (groupOf lane + lanes) && anyFrom (marks t) (groupOf lane) (t .stride - groupOf lane)
+inSpan t lane =
+    anyFrom (marks t) 0 (groupOf lane + lanes) && anyFrom (marks t) (groupOf lane) (t .stride - groupOf lane)
 
 -- a lane, or none
 pub data Lane : Type 0 where

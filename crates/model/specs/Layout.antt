@@ -1,5 +1,6 @@
--- Where the numbers of a program stand in the two memories lent to it (docs/CALLS.md, Memories; document 01, row 14). Definitions only.
--- A place follows from the number of a plan or of a route and from the sizes. First the places by themselves, then the same as parts of a memory.
+-- Where the numbers of a program stand in the two memories lent to it (docs/CALLS.md, Memories; document 01, row 14).
+-- Definitions only. A place follows from the number of a plan or of a route and from the sizes. First the places by
+-- themselves, then the same as parts of a memory.
 use mathlib.Core.Path.{_≡_, refl}
 use mathlib.Core.Bool.{Bool, cond}
 use mathlib.Core.Logic.{_⊎_}
@@ -59,11 +60,13 @@ plan-examples : (planFrom 16 4 0 ≡ 0) × (planTo 16 4 0 ≡ 16) × (planFrom 1
 plan-examples = (refl, refl, refl, refl)
 
 -- the last chunk of plan 2, global and per voice: the spare rows start at 608
-chunk-examples : (chunkFrom 16 4 2 1 3 ≡ 483) × (chunkTo 16 4 2 1 3 ≡ 547) × (chunkFrom 16 4 2 16 3 ≡ 528) × (chunkTo 16 4 2 16 3 ≡ 592)
+chunk-examples : (chunkFrom 16 4 2 1 3 ≡ 483) × (chunkTo 16 4 2 1 3 ≡ 547) × (chunkFrom 16 4 2 16 3 ≡ 528)
+    × (chunkTo 16 4 2 16 3 ≡ 592)
 chunk-examples = (refl, refl, refl, refl)
 
 -- the routes behind 3 plans
-route-examples : (routeSlew 16 4 3 0 0 ≡ 672) × (routeSlew 16 4 3 1 1 ≡ 816) × (routeRandom 16 4 3 1 0 ≡ 832) × (routeRandom 16 4 3 1 1 ≡ 848)
+route-examples : (routeSlew 16 4 3 0 0 ≡ 672) × (routeSlew 16 4 3 1 1 ≡ 816) × (routeRandom 16 4 3 1 0 ≡ 832)
+    × (routeRandom 16 4 3 1 1 ≡ 848)
 route-examples = (refl, refl, refl, refl)
 
 -- the last frame of plan 0, per voice, and of plan 2, global
@@ -165,9 +168,12 @@ module _ (z : Sizes) where
 abbrev small : Sizes
 small = record { stride = 16; chunks = 4; frames = 64; plans = 3; routes = 2; voice = λ i. eqb i 1 }
 
-small-starts : (start small (ofPlan 1 (toAt 3)) ≡ 368) × (width small (ofPlan 1 (toAt 3)) ≡ 16) × (start small (ofPlan 2 (toAt 3)) ≡ 547) × (width small (ofPlan 2 (toAt 3)) ≡ 1)
+small-starts : (start small (ofPlan 1 (toAt 3)) ≡ 368) × (width small (ofPlan 1 (toAt 3)) ≡ 16)
+    × (start small (ofPlan 2 (toAt 3)) ≡ 547) × (width small (ofPlan 2 (toAt 3)) ≡ 1)
 small-starts = (refl, refl, refl, refl)
 
 -- the last parts, and the needs: four spare rows stand behind the last of a route
-small-ends : (start small (ofRoute 1 (random 1)) + width small (ofRoute 1 (random 1)) + 4 * 16 ≡ need small values) × (need small values ≡ 928) × (start small (atFrame 1 63) + width small (atFrame 1 63) ≡ 2048) × (need small audio ≡ 3072)
+small-ends : (start small (ofRoute 1 (random 1)) + width small (ofRoute 1 (random 1)) + 4 * 16 ≡ need small values)
+    × (need small values ≡ 928) × (start small (atFrame 1 63) + width small (atFrame 1 63) ≡ 2048)
+    × (need small audio ≡ 3072)
 small-ends = (refl, refl, refl, refl)

@@ -1,4 +1,5 @@
--- What goes into one destination: its scope, bounds and base, and its routes in slot order. Of a plan it is read off the program; of the model off slots and registries (Rule). Definitions only.
+-- What goes into one destination: its scope, bounds and base, and its routes in slot order. Of a plan it is read off
+-- the program; of the model off slots and registries (Rule). Definitions only.
 use mathlib.Core.Bool.{Bool}
 use Prim.Native.Nat.{ℕ, _+_}
 use lib.Ieee.{Float}

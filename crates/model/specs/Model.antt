@@ -1,5 +1,6 @@
--- THE MODEL (document 01, The model): its state is that of the definitions, with control values and slews of its own; every call does as the definitions say, save that at a tick any numbers
--- that meet the rule may come, or, under a chain, the definitions' own. Definitions only.
+-- THE MODEL (document 01, The model): its state is that of the definitions, with control values and slews of its own;
+-- every call does as the definitions say, save that at a tick any numbers that meet the rule may come, or, under a
+-- chain, the definitions' own. Definitions only.
 use mathlib.Core.Path.{_≡_}
 use mathlib.Core.Bool.{Bool, true, false, not, cond, _&&_}
 use mathlib.Core.List.{List, [], _∷_}
@@ -21,10 +22,13 @@ use Rattle.model.specs.Chunks.{chunkTotal, chunkOf}
 use Rattle.model.specs.World.{World}
 use Rattle.model.specs.Process.{envOf, snapOf, primedWith, afterTick, blockOf, loaded, drawn, closed, process}
 use Rattle.model.specs.Outputs.{planPlace}
-use Rattle.model.specs.Calls.{Call, held-set, voice-held-set, base-set, amount-set, output-set, limit-set, note-on, note-off, voice-ended, swap, block, program-memory, engine-memory, read, Runner, onWorld, called}
+use Rattle.model.specs.Calls.{Call, held-set, voice-held-set, base-set, amount-set, output-set, limit-set}
+use Rattle.model.specs.Calls.{note-on, note-off, voice-ended, swap, block, program-memory, engine-memory, read}
+use Rattle.model.specs.Calls.{Runner, onWorld, called}
 use Rattle.model.specs.Rule.{Values, Rule, Barred, Unbarred}
 
--- ---- where the numbers of a destination and of a slot lie in the lent values: the one link between the rule and a memory
+-- ---- where the numbers of a destination and of a slot lie in the lent values: the one link between the rule and a
+-- memory
 
 -- the place of the first route of slot n; their number where none is
 abbrev pub routeOf : ℕ → List Route → ℕ
@@ -48,25 +52,29 @@ unfolding fillFrom putSlews
 written st u zero m = m
 written st u (suc k) m =
     let p = planAt st k in
-    putPlan st k (planWidth (strideOf st) (p .voice)) (u .to (p .dest)) (u .from (p .dest)) (λ j. u .own (routeAt st (p .first + j) .slot)) (written st u k m)
+    putPlan st k (planWidth (strideOf st) (p .voice)) (u .to (p .dest)) (u .from (p .dest))
+    (λ j. u .own (routeAt st (p .first + j) .slot)) (written st u k m)
 
 -- ---- a tick of the program that was compiled from w, by which m becomes n
 
 pub data Ticks (w : Wiring) (st : State) (t : Env) (phase : ℕ) (m n : List Float) : Type 0 where
-  by-rule : Unbarred w → (u : Values) → Rule w t phase (valuesIn st m) u → n ≡ written st u (controlTotal (st .program)) m → Ticks w st t phase m n
+  by-rule : Unbarred w → (u : Values) → Rule w t phase (valuesIn st m) u
+      → n ≡ written st u (controlTotal (st .program)) m → Ticks w st t phase m n
   by-definition : Barred w → n ≡ tickOf st t phase m → Ticks w st t phase m n
 
 -- ---- a block, chunk after chunk
 
 pub data Steps (w : Wiring) (samples : List Float) (signals : Signals) (i : ℕ) (c : Chunk) (u v : World) : Type 0 where
   still : c .tick ≡ false → v ≡ afterTick samples signals i c (snapOf i u) u → Steps w samples signals i c u v
-  ticks : c .tick ≡ true → (m : List Float) → Ticks w (u .state) (envOf u samples signals c (snapOf i u)) (c .phase) (u .values) m
+  ticks : c .tick ≡ true → (m : List Float) → Ticks w (u .state) (envOf u samples signals c (snapOf i u)) (c .phase)
+      (u .values) m
       → v ≡ afterTick samples signals i c (snapOf i u) (primedWith u m) → Steps w samples signals i c u v
 
 -- the first n chunks
 pub data Chunks (w : Wiring) (samples : List Float) (signals : Signals) (b : Block) : ℕ → World → World → Type 0 where
   none : {u : World} → Chunks w samples signals b zero u u
-  more : {n : ℕ} {u v x : World} → Chunks w samples signals b n u v → Steps w samples signals n (chunkOf b n) v x → Chunks w samples signals b (suc n) u x
+  more : {n : ℕ} {u v x : World} → Chunks w samples signals b n u v → Steps w samples signals n (chunkOf b n) v x
+      → Chunks w samples signals b (suc n) u x
 
 -- the block is accepted, its range is not empty, and there are routes
 abbrev pub walks : World → List Float → Signals → ℕ → ℕ → Bool
@@ -74,14 +82,17 @@ walks u samples signals start end =
     (eqb (process u samples signals start end .code) 0 && ltb start end) && not (eqb (routeTotal (u .state .program)) 0)
 
 pub data Blocks (w : Wiring) (samples : List Float) (signals : Signals) (start end : ℕ) (u v : World) : Type 0 where
-  quiet : walks u samples signals start end ≡ false → v ≡ process u samples signals start end .world → Blocks w samples signals start end u v
+  quiet : walks u samples signals start end ≡ false → v ≡ process u samples signals start end .world
+      → Blocks w samples signals start end u v
   walked : walks u samples signals start end ≡ true → (x : World)
-      → Chunks w samples signals (blockOf (u .state) start end) (chunkTotal (blockOf (u .state) start end)) (drawn (loaded u)) x
+      → Chunks w samples signals (blockOf (u .state) start end) (chunkTotal (blockOf (u .state) start end))
+      (drawn (loaded u)) x
       → v ≡ closed (blockOf (u .state) start end) (end - start) x → Blocks w samples signals start end u v
 
 -- ---- a call, and a list of them; names: what each program was compiled from
 
-pub record Rendered (names : ℕ → Wiring) (samples : List Float) (signals : Signals) (start end : ℕ) (r q : Runner) : Type 0 where
+pub record Rendered (names : ℕ → Wiring) (samples : List Float) (signals : Signals) (start end : ℕ)
+    (r q : Runner) : Type 0 where
   pub after : World
   pub blocks : Blocks (names (r .installed)) samples signals start end (r .world) after
   pub same : q ≡ onWorld r after
@@ -105,4 +116,5 @@ Does names read r q = q ≡ called read r
 -- A RUN OF THE MODEL over a list of calls, from r to q
 pub data Models (names : ℕ → Wiring) : List Call → Runner → Runner → Type 0 where
   finish : {r : Runner} → Models names [] r r
-  call : {c : Call} {cs : List Call} {r x q : Runner} → Does names c r x → Models names cs x q → Models names (c ∷ cs) r q
+  call : {c : Call} {cs : List Call} {r x q : Runner} → Does names c r x → Models names cs x q
+      → Models names (c ∷ cs) r q

@@ -25,7 +25,8 @@ use Rattle.state.specs.declared.Flag.{Flag}
 use Rattle.state.specs.declared.State.{State}
 use Rattle.model.specs.Counts.{voiceCount, engineSources}
 use Rattle.model.specs.World.{World, markAt, heldPlace, heldOf, isVelocity, isKey, isRelease, isRandom}
-use Rattle.model.specs.States.{withVoices, withMarks, withVelocity, withKey, withAlternate, withDraw, putState, putHeld}
+use Rattle.model.specs.States.{withVoices, withMarks, withVelocity, withKey, withAlternate, withDraw, putState}
+use Rattle.model.specs.States.{putHeld}
 use Rattle.model.specs.Process.{tablesNeedOf}
 use Rattle.model.specs.Settings.{Done, doneBy, heldShort, numberRow}
 
@@ -71,14 +72,16 @@ writtenAt st p old v target time m = cond (glidesTo (valueOf old v) target time)
 -- sounding, renoted, and fresh unless legato
 abbrev pub begun : ℕ → Note → World → World
 begun v n w =
-    putState w (withMarks (withVoices (w .state) (soundedOn (w .state .voices) v)) (marksOn (w .state .marks) v (n .legato)))
+    putState w (withMarks (withVoices (w .state) (soundedOn (w .state .voices) v))
+    (marksOn (w .state .marks) v (n .legato)))
 
 -- the velocity, unless the note is legato and the program does not set it then
 abbrev pub velocitySet : ℕ → Note → World → World
 velocitySet v n w =
     let st = w .state in
     cond (not (n .legato) || st .program .«velocity_legato»)
-    (putHeld (putState w (withVelocity st (setNote (st .velocity) v (velocityTarget w n) (legatoOf w n) (st .config .«sample_rate»))))
+    (putHeld (putState w (withVelocity st
+    (setNote (st .velocity) v (velocityTarget w n) (legatoOf w n) (st .config .«sample_rate»))))
     (writtenAt st isVelocity (st .velocity) v (velocityTarget w n) (legatoOf w n) (w .held)))
     w
 
@@ -142,7 +145,8 @@ releasedTo v x w = putHeld w (heldOf (w .state) isRelease v x (w .held))
 -- in this order
 abbrev pub notedOn : ℕ → Note → World → World
 notedOn v n w =
-    releasedTo v zero32 (alternated v (randomsSet v (engineSources (w .state)) (keySet v n (velocitySet v n (begun v n w)))))
+    releasedTo v zero32 (alternated v
+    (randomsSet v (engineSources (w .state)) (keySet v n (velocitySet v n (begun v n w)))))
 
 -- ---- the calls
 
@@ -151,7 +155,8 @@ noteFinite n = finite (n .key) && (finite (n .velocity) && finite (n .glide-seco
 
 abbrev pub noteOnRows : World → ℕ → Note → List Row
 noteOnRows w v n =
-    voiceRow (w .state) v ∷ 6 when not (noteFinite n) ∷ 14 when (heldShort w || ltb (length (w .tables)) (tablesNeedOf (w .state))) ∷ []
+    voiceRow (w .state) v ∷ 6 when not (noteFinite n) ∷ 14 when
+    (heldShort w || ltb (length (w .tables)) (tablesNeedOf (w .state))) ∷ []
 
 unfoldable pub noteOn : World → ℕ → Note → Done
 unfolding doneBy noteCurve randomsSet alternates
@@ -169,7 +174,8 @@ noteOff w v x = doneBy (noteOffRows w v x) w (releasedTo v x w)
 abbrev pub ended : State → ℕ → State
 ended st v =
     withKey
-    (withVelocity (withMarks (withVoices st (endedOf (st .voices) v)) (marksEnded (st .marks) v)) (endedNote (st .velocity) v))
+    (withVelocity (withMarks (withVoices st (endedOf (st .voices) v)) (marksEnded (st .marks) v))
+    (endedNote (st .velocity) v))
     (endedNote (st .key) v)
 
 abbrev pub voiceEndedRows : World → ℕ → List Row

@@ -1,4 +1,5 @@
--- What is read of an engine: the shape of an output, its rows, chunks and single numbers (engine.rs 105-190, 382-390, 613-690; document 01, Chunk and value). Definitions only.
+-- What is read of an engine: the shape of an output, its rows, chunks and single numbers (engine.rs 105-190, 382-390,
+-- 613-690; document 01, Chunk and value). Definitions only.
 use mathlib.Core.Path.{_≡_, refl}
 use mathlib.Core.Bool.{Bool, true, false, not, cond, _&&_, _||_}
 use mathlib.Core.List.{List, [], _∷_, _++_, map}
@@ -109,7 +110,8 @@ no-part : (m : List Float) (a n : ℕ) → partBy (14 when false ∷ []) false m
 unfolding judged
 no-part m a n = refl
 
-some-part : (x y z : Float) → partBy (14 when false ∷ []) true (x ∷ y ∷ z ∷ []) 1 2 ≡ record { code = 0; numbers = y ∷ z ∷ [] }
+some-part : (x y z : Float) → partBy (14 when false ∷ []) true (x ∷ y ∷ z ∷ []) 1 2
+    ≡ record { code = 0; numbers = y ∷ z ∷ [] }
 unfolding judged part
 some-part x y z = refl
 
@@ -166,13 +168,15 @@ toNumber st values d c v = at values (toStart st d c + laneOf st d v)
 unfoldable pub audioAt : State → List Float → ℕ → ℕ → ℕ → Reading
 unfolding judged
 audioAt st audio d k v =
-    readBy (voiceRow st v ∷ 14 when audioShort st audio ∷ []) (isAudioPlan st d && ltb k (frameCount st)) (audioNumber st audio d k v)
+    readBy (voiceRow st v ∷ 14 when audioShort st audio ∷ []) (isAudioPlan st d && ltb k (frameCount st))
+    (audioNumber st audio d k v)
 
 -- engine.rs 167-170
 unfoldable pub controlValue : State → List Float → ℕ → ℕ → ℕ → Reading
 unfolding judged chunkTotal
 controlValue st values d c v =
-    readBy (voiceRow st v ∷ 14 when valuesShort st values ∷ []) (isControlPlan st d && ltb c (chunkTotal (st .block))) (toNumber st values d c v)
+    readBy (voiceRow st v ∷ 14 when valuesShort st values ∷ []) (isControlPlan st d && ltb c (chunkTotal (st .block)))
+    (toNumber st values d c v)
 
 -- the number after the last chunk, or at its last frame (engine.rs 642-656)
 abbrev pub lastFrame : State → ℕ
@@ -180,7 +184,8 @@ lastFrame st = st .block .end - 1
 
 abbrev pub latestNumber : State → List Float → List Float → ℕ → ℕ → Float
 latestNumber st values audio d v =
-    cond (isAudioPlan st d) (audioNumber st audio d (lastFrame st) v) (toNumber st values d (chunkTotal (st .block) - 1) v)
+    cond (isAudioPlan st d) (audioNumber st audio d (lastFrame st) v)
+    (toNumber st values d (chunkTotal (st .block) - 1) v)
 
 abbrev pub hasLatest : State → ℕ → Bool
 hasLatest st d = hasPlan st d && ltb 0 (chunkTotal (st .block))
@@ -188,7 +193,8 @@ hasLatest st d = hasPlan st d && ltb 0 (chunkTotal (st .block))
 unfoldable pub latestOf : State → List Float → List Float → ℕ → ℕ → Reading
 unfolding judged chunkTotal
 latestOf st values audio d v =
-    readBy (voiceRow st v ∷ 14 when (valuesShort st values || audioShort st audio) ∷ []) (hasLatest st d) (latestNumber st values audio d v)
+    readBy (voiceRow st v ∷ 14 when (valuesShort st values || audioShort st audio) ∷ []) (hasLatest st d)
+    (latestNumber st values audio d v)
 
 -- ---- every destination's latest number (engine.rs 667-690)
 
@@ -216,7 +222,11 @@ unfolding judged chunkTotal onPart
 latestAll st values audio n out =
     let need = n * programDests st in
     let code = judged (14 when (valuesShort st values || (audioShort st audio || ltb (length out) need)) ∷ []) in
-    record { code = code; out = cond (eqb code 0) (onPart out 0 need (latestRows st values audio n (upFrom 0 (programDests st)))) out }
+    record {
+      code = code;
+      out = cond (eqb code 0)
+          (onPart out 0 need (latestRows st values audio n (upFrom 0 (programDests st)))) out;
+    }
 
 -- ---- the ramp (engine.rs 178-190): from + (to - from) / 32 × (phase + j), a number a frame
 

@@ -1,4 +1,5 @@
--- The plans and the routes of a program, and the program itself (document 01, Plan and route; program.rs 371-558). Definitions only.
+-- The plans and the routes of a program, and the program itself (document 01, Plan and route; program.rs 371-558).
+-- Definitions only.
 use mathlib.Core.Bool.{Bool, cond}
 use mathlib.Core.List.{List, [], _∷_, _++_, map}
 use Prim.Native.Nat.{ℕ, _+_}
@@ -59,7 +60,8 @@ abbrev pub plansIn : Sources → Destinations → List Candidate → List Reader
 plansIn ss ds cs rs f [] = []
 plansIn ss ds cs rs f (d ∷ l) =
     let n = length (readersInto d rs) in
-    planBy d (destAt ds d) (counted ss (destAt ds d .feed)) (audioIn ss cs d (destAt ds d)) f n ∷ plansIn ss ds cs rs (f + n) l
+    planBy d (destAt ds d) (counted ss (destAt ds d .feed)) (audioIn ss cs d (destAt ds d)) f n
+    ∷ plansIn ss ds cs rs (f + n) l
 
 unfoldable pub plansOf : Wiring → List Plan
 unfolding planBy planOrder candidates hearsAudio readersOf
@@ -68,7 +70,8 @@ plansOf w = plansIn (w .sources) (w .dests) (candidates w) (readersOf w) 0 (plan
 unfoldable pub allRoutes : Wiring → List Route
 unfolding routeIn planOrder readersOf
 allRoutes w =
-    routesOver (w .config .«sample_rate») (w .sources) (w .dests) (w .matrix .slot) (readersOf w) (planOrder w) (planOrder w)
+    routesOver (w .config .«sample_rate») (w .sources) (w .dests) (w .matrix .slot) (readersOf w) (planOrder w)
+    (planOrder w)
 
 -- ---- THE PROGRAM
 

@@ -1,5 +1,5 @@
--- A block: open (load, draws), a step a chunk (tick, chunk rows, audio rows, glides), close (phase, marks) (engine.rs 547-611, 756-769, 804-1011; document 01, Chunk
--- and value). Definitions only.
+-- A block: open (load, draws), a step a chunk (tick, chunk rows, audio rows, glides), close (phase, marks) (engine.rs
+-- 547-611, 756-769, 804-1011; document 01, Chunk and value). Definitions only.
 use mathlib.Core.Bool.{Bool, true, false, not, cond, _&&_, _||_}
 use mathlib.Core.List.{List, [], _∷_}
 use Prim.Native.Nat.{ℕ, zero, suc, _+_, _-_, _*_, _%_}
@@ -26,14 +26,16 @@ use Rattle.state.specs.declared.Signals.{Signals}
 use Rattle.state.specs.declared.State.{State}
 use Rattle.slots_tables.specs.Tables.{tablesNeed}
 use Rattle.model.specs.Need.{valuesNeed, audioNeed}
-use Rattle.model.specs.Counts.{voiceCount, frameCount, strideOf, chunksMost, engineSources, engineDests, planTotal, controlTotal, routeTotal, phaseOf, planAt, routeAt}
+use Rattle.model.specs.Counts.{voiceCount, frameCount, strideOf, chunksMost, engineSources, engineDests}
+use Rattle.model.specs.Counts.{planTotal, controlTotal, routeTotal, phaseOf, planAt, routeAt}
 use Rattle.model.specs.Env.{Env}
 use Rattle.model.specs.Layout.{planWidth, planFrom, planTo, chunkFrom, chunkTo, routeRandom}
 use Rattle.model.specs.Tick.{offPhase, fillFrom, lanesFrom, tickOf}
 use Rattle.model.specs.Audio.{Sounds, audioOf}
 use Rattle.model.specs.Chunks.{chunkTotal, chunkOf, chunkList}
 use Rattle.model.specs.World.{World, heldOf, isVelocity, isKey, loadBy}
-use Rattle.model.specs.States.{withMarks, withVelocity, withKey, withDraw, withPhase, withBlock, withPrimed, putState, putHeld, putGlobals, putValues, putAudio}
+use Rattle.model.specs.States.{withMarks, withVelocity, withKey, withDraw, withPhase, withBlock, withPrimed}
+use Rattle.model.specs.States.{putState, putHeld, putGlobals, putValues, putAudio}
 
 -- ---- rows 1, 13 and 14
 
@@ -130,7 +132,8 @@ drawAux st r (X.With i) d = drawRead st r 1 (i .read) d
 unfoldable pub drawRoutes : State → ℕ → Drawn → Drawn
 unfolding drawVoices
 drawRoutes st zero d = d
-drawRoutes st (suc n) d = drawAux st n (routeAt st n .aux) (drawRead st n 0 (routeAt st n .source .read) (drawRoutes st n d))
+drawRoutes st (suc n) d =
+    drawAux st n (routeAt st n .aux) (drawRead st n 0 (routeAt st n .source .read) (drawRoutes st n d))
 
 abbrev pub putDrawn : World → Drawn → World
 putDrawn w d = putValues (putState w (withDraw (w .state) (d .draw))) (d .values)
@@ -138,7 +141,8 @@ putDrawn w d = putValues (putState w (withDraw (w .state) (d .draw))) (d .values
 abbrev pub drawn : World → World
 drawn w =
     cond (w .state .marks .«any_renoted»)
-    (putDrawn w (drawRoutes (w .state) (routeTotal (w .state .program)) (record { draw = w .state .draw; values = w .values })))
+    (putDrawn w (drawRoutes (w .state) (routeTotal (w .state .program))
+    (record { draw = w .state .draw; values = w .values })))
     w
 
 -- ---- a chunk
@@ -197,7 +201,8 @@ putSounds w m = putAudio (putValues w (m .values)) (m .audio)
 
 abbrev pub sounded : List Float → Signals → Chunk → Bool → World → World
 sounded samples signals c snap w =
-    putSounds w (audioOf (w .state) (envOf w samples signals c snap) c (record { values = w .values; audio = w .audio }))
+    putSounds w (audioOf (w .state) (envOf w samples signals c snap) c
+    (record { values = w .values; audio = w .audio }))
 
 -- what follows the tick: chunk rows, audio rows, glides
 abbrev pub afterTick : List Float → Signals → ℕ → Chunk → Bool → World → World
@@ -206,7 +211,8 @@ afterTick samples signals i c snap w = glided (c .len) (sounded samples signals 
 -- THE STEP of chunk i
 unfoldable pub chunkStep : List Float → Signals → ℕ → Chunk → World → World
 unfolding tickOf rowsOfChunk audioOf glided
-chunkStep samples signals i c w = let snap = snapOf i w in afterTick samples signals i c snap (ticked samples signals c snap w)
+chunkStep samples signals i c w =
+    let snap = snapOf i w in afterTick samples signals i c snap (ticked samples signals c snap w)
 
 -- the first n chunks of a block
 unfoldable pub chunkSteps : List Float → Signals → Block → ℕ → World → World
@@ -217,14 +223,17 @@ chunkSteps samples signals b (suc n) w = chunkStep samples signals n (chunkOf b 
 -- ---- close
 
 abbrev pub closed : Block → ℕ → World → World
-closed b len w = putState w (withBlock (withMarks (withPhase (w .state) ((phaseOf (w .state) + len) % period)) (marksCleared (w .state .marks))) b)
+closed b len w =
+    putState w (withBlock (withMarks (withPhase (w .state) ((phaseOf (w .state) + len) % period))
+    (marksCleared (w .state .marks))) b)
 
 -- ---- the block
 
 abbrev pub blockOf : State → ℕ → ℕ → Block
 blockOf st start end = record { start = start; end = end; phase = phaseOf st; «first_tick» = st .marks .«any_fresh» }
 
--- "With no routes, glides (once, by the whole length) and clock move, the fresh and renoted marks clear, the chunk list empties"
+-- "With no routes, glides (once, by the whole length) and clock move, the fresh and renoted marks clear, the chunk list
+-- empties"
 abbrev pub noBlock : Block
 noBlock = record { start = 0; end = 0; phase = 0; «first_tick» = false }
 

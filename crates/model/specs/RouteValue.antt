@@ -31,10 +31,12 @@ flipped invert a = cond invert (less one32 a) a
 
 -- the source of route j, curved and slewed; the same of its aux
 abbrev pub sourceIn : Env → Rows → Own → ℕ → ℕ → Route → Float
-sourceIn t f s j lane r = inputIn t f (r .slot) 0 (snapOf t (r .voice) lane) (ownAt t s j 0 lane) (ownAt t s j 2 lane) lane (r .source)
+sourceIn t f s j lane r =
+    inputIn t f (r .slot) 0 (snapOf t (r .voice) lane) (ownAt t s j 0 lane) (ownAt t s j 2 lane) lane (r .source)
 
 abbrev pub auxIn : Env → Rows → Own → ℕ → ℕ → Route → Input → Float
-auxIn t f s j lane r i = inputIn t f (r .slot) 1 (snapOf t (r .voice) lane) (ownAt t s j 1 lane) (ownAt t s j 3 lane) lane i
+auxIn t f s j lane r i =
+    inputIn t f (r .slot) 1 (snapOf t (r .voice) lane) (ownAt t s j 1 lane) (ownAt t s j 3 lane) lane i
 
 -- the source as it is read
 abbrev pub rawIn : Env → Rows → Own → ℕ → ℕ → Route → Float
@@ -56,7 +58,8 @@ gainIn t f lane live G.Live = live
 gainIn t f lane live (G.Fed e voice) = fedAt t f e voice lane
 
 abbrev pub gained : Env → Rows → ℕ → Route → Float
-gained t f lane r = times (gainIn t f lane (liveAmount t (r .slot)) (r .amount)) (gainIn t f lane (liveOutput t (r .slot)) (r .output))
+gained t f lane r =
+    times (gainIn t f lane (liveAmount t (r .slot)) (r .amount)) (gainIn t f lane (liveOutput t (r .slot)) (r .output))
 
 -- THE VALUE of route j
 unfoldable pub routeValue : Env → Rows → Own → ℕ → ℕ → Route → Float
@@ -73,7 +76,9 @@ idle t r = liveGain (r .amount) && (liveGain (r .output) && isZero (gainOf t r))
 -- a whole row stands there to be read (engine.rs 1022-1037)
 abbrev pub rowed : Env → Read → Bool
 rowed t (D.Signal src true) =
-    ltb 0 (partOf (t .signals) src .len) && (leb (t .stride) (partStride (partOf (t .signals) src)) && leb (t .upTo * partStride (partOf (t .signals) src)) (partOf (t .signals) src .len))
+    ltb 0 (partOf (t .signals) src .len)
+    && (leb (t .stride) (partStride (partOf (t .signals) src))
+    && leb (t .upTo * partStride (partOf (t .signals) src)) (partOf (t .signals) src .len))
 rowed t (D.Signal src false) = false
 rowed t (D.Held src voice) = voice
 rowed t (D.Fed e voice) = voice

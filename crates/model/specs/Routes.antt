@@ -106,7 +106,8 @@ isBipolar R.Bipolar = true
 -- source i, read by the link, over the curve
 unfoldable pub inputBy : Float → Source → ℕ → Gain → Curve → Input
 unfolding slewFor
-inputBy rate s i g c = record { read = readBy s i g; bipolar = isBipolar (s .range); table = not (isLinear c); slew = slewFor rate c }
+inputBy rate s i g c =
+    record { read = readBy s i g; bipolar = isBipolar (s .range); table = not (isLinear c); slew = slewFor rate c }
 
 abbrev pub auxBy : Float → Sources → AuxSource → Gain → Curve → Aux
 auxBy rate ss U.Nothing g c = X.Missing
@@ -120,7 +121,8 @@ abbrev pub noAux : Aux → Bool
 noAux X.Missing = true
 noAux (X.With i) = false
 
--- ---- the source, uncurved and unslewed, is scale times its value plus offset, by its own range and the slot's (program.rs 487-491)
+-- ---- the source, uncurved and unslewed, is scale times its value plus offset, by its own range and the slot's
+-- (program.rs 487-491)
 
 abbrev pub twoWay : Polarity → Bool
 twoWay Q.Unipolar = false
@@ -156,9 +158,11 @@ noSlot =
       bypass = false;
     }
 
--- plain: a per-voice source into a per-voice destination, uncurved, unslewed, without aux, at the slot's live gains (program.rs 497-503)
+-- plain: a per-voice source into a per-voice destination, uncurved, unslewed, without aux, at the slot's live gains
+-- (program.rs 497-503)
 abbrev pub simpleRoute : Bool → Input → Aux → Gain → Gain → Bool
-simpleRoute dv i x a o = voiceRead (i .read) && (dv && (not (i .table) && (freeSlew (i .slew) && (noAux x && (liveGain a && liveGain o)))))
+simpleRoute dv i x a o =
+    voiceRead (i .read) && (dv && (not (i .table) && (freeSlew (i .slew) && (noAux x && (liveGain a && liveGain o)))))
 
 -- by its inputs and gains; dv: its destination is per voice
 unfoldable pub routeBy : ℕ → Slot → Bool → Input → Aux → Gain → Gain → Route
@@ -182,7 +186,8 @@ unfoldable pub routeIn : Float → Sources → List ℕ → Slot → Bool → Re
 unfolding inputBy routeBy
 routeIn rate ss os s dv r =
     routeBy (r .candidate .slot) s dv
-    (inputBy rate (sourceAt ss (r .candidate .source)) (r .candidate .source) (linked os (r .source)) (s .«source_curve»))
+    (inputBy rate (sourceAt ss (r .candidate .source)) (r .candidate .source) (linked os (r .source))
+    (s .«source_curve»))
     (auxBy rate ss (r .candidate .aux) (linked os (r .aux)) (s .«aux_curve»))
     (linked os (r .amount))
     (linked os (r .output))

@@ -1,6 +1,7 @@
--- THE RULE of a control tick, in which no plan and no order stands (document 01, The model). It goes by slots, registries and configuration; it asks of numbers proposed for each control
--- destination in use that each be the base and the routes' terms, added and held to the bounds, with each fed input read from the numbers proposed, or, fed by itself, from its own before.
--- Definitions only.
+-- THE RULE of a control tick, in which no plan and no order stands (document 01, The model). It goes by slots,
+-- registries and configuration; it asks of numbers proposed for each control destination in use that each be the base
+-- and the routes' terms, added and held to the bounds, with each fed input read from the numbers proposed, or, fed by
+-- itself, from its own before. Definitions only.
 use mathlib.Core.Path.{_≡_}
 use mathlib.Core.Bool.{Bool, cond}
 use mathlib.Core.List.{List, [], _∷_}
@@ -54,8 +55,10 @@ unfoldable pub slotRoute : Wiring → Candidate → Route
 unfolding inputBy routeBy feederOf
 slotRoute w c =
     routeBy (c .slot) (slotOf w c) (destVoice w (c .dest))
-    (inputBy (w .config .«sample_rate») (sourceAt (w .sources) (c .source)) (c .source) (fedFrom (feederOf w (B.Held (c .source)))) (slotOf w c .«source_curve»))
-    (auxBy (w .config .«sample_rate») (w .sources) (c .aux) (fedFrom (feederOf w (auxThing (c .aux)))) (slotOf w c .«aux_curve»))
+    (inputBy (w .config .«sample_rate») (sourceAt (w .sources) (c .source)) (c .source)
+    (fedFrom (feederOf w (B.Held (c .source)))) (slotOf w c .«source_curve»))
+    (auxBy (w .config .«sample_rate») (w .sources) (c .aux) (fedFrom (feederOf w (auxThing (c .aux))))
+    (slotOf w c .«aux_curve»))
     (fedFrom (feederOf w (B.Amount (c .slot))))
     (fedFrom (feederOf w (B.Output (c .slot))))
 

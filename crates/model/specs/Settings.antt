@@ -1,4 +1,5 @@
--- Calls that make an engine, set its numbers, and install a program (engine.rs 273-446). Each with its rows in order; a refused call changes nothing. Definitions only.
+-- Calls that make an engine, set its numbers, and install a program (engine.rs 273-446). Each with its rows in order; a
+-- refused call changes nothing. Definitions only.
 use mathlib.Core.Bool.{Bool, true, false, not, cond, _&&_, _||_}
 use mathlib.Core.List.{List, [], _∷_, _++_, map}
 use Prim.Native.Nat.{ℕ, _+_, _*_, max}
@@ -30,7 +31,8 @@ use Rattle.model.specs.Compile.{emptyOf, zeroed}
 use Rattle.model.specs.Counts.{strideOf, engineSources, engineDests, routeTotal}
 use Rattle.model.specs.Env.{noPart}
 use Rattle.model.specs.World.{World, markAt, heldPlace}
-use Rattle.model.specs.States.{withMarks, withGains, withLimit, withPrimed, withProgram, putState, putHeld, putGlobals, putBases}
+use Rattle.model.specs.States.{withMarks, withGains, withLimit, withPrimed, withProgram, putState, putHeld}
+use Rattle.model.specs.States.{putGlobals, putBases}
 use Rattle.model.specs.Process.{noBlock}
 
 -- what a call leaves: its number, and the world
@@ -75,20 +77,23 @@ abbrev pub freshWorld : Sources → Destinations → Config → World → World
 freshWorld ss ds c w =
     let st = freshState ss ds c in
     putBases
-    (putGlobals (putHeld (putState w st) (zeroed (strideOf st * engineSources st) (w .held))) (zeroed (engineSources st) (w .globals)))
+    (putGlobals (putHeld (putState w st) (zeroed (strideOf st * engineSources st) (w .held)))
+    (zeroed (engineSources st) (w .globals)))
     (zeroed (engineDests st) (w .bases))
 
 -- what a refused `new` answers: the fresh engine for rate 1, 0 frames, 0 voices, with nothing registered
 abbrev pub refusedState : State
 refusedState =
-    freshState (record { count = 0; entry = replicate mostSources noSource }) (record { count = 0; entry = replicate mostDestinations noDest })
+    freshState (record { count = 0; entry = replicate mostSources noSource })
+    (record { count = 0; entry = replicate mostDestinations noDest })
     (record { «sample_rate» = one32; «max_frames» = 0; voices = 0 })
 
 abbrev pub newRows : Sources → Destinations → Config → World → List Row
 newRows ss ds c w =
     let st = freshState ss ds c in
     configRows (c .«sample_rate») (c .«max_frames») (c .voices)
-    ++ (14 when (ltb (length (w .held)) (strideOf st * engineSources st) || (ltb (length (w .globals)) (engineSources st) || ltb (length (w .bases)) (engineDests st))) ∷ [])
+    ++ (14 when (ltb (length (w .held)) (strideOf st * engineSources st)
+    || (ltb (length (w .globals)) (engineSources st) || ltb (length (w .bases)) (engineDests st))) ∷ [])
 
 -- of w the memories count
 unfoldable pub newEngine : Sources → Destinations → Config → World → Done
@@ -107,7 +112,11 @@ unfoldable pub bindSignal : Signals → ℕ → ℕ → ℕ → ℕ → Bound
 unfolding judged
 bindSignal s src a n stride =
     let code = judged (13 when ltb mostSignalStride stride ∷ []) in
-    record { code = code; signals = cond (eqb code 0) (record { part = set (s .part) src (record { at = a; len = n; stride = stride }) }) s }
+    record {
+      code = code;
+      signals = cond (eqb code 0)
+          (record { part = set (s .part) src (record { at = a; len = n; stride = stride }) }) s;
+    }
 
 -- ---- rows
 
@@ -150,7 +159,8 @@ setHeld w i x = doneBy (heldRows w i x) w (heldWorld w i x)
 
 -- the lane of the source, whatever its scope (engine.rs 407-412)
 abbrev pub voiceHeldRows : World → ℕ → ℕ → Float → List Row
-voiceHeldRows w i v x = 2 when leb (strideOf (w .state)) v ∷ sourceRow (w .state) i ∷ numberRow x ∷ 14 when heldShort w ∷ []
+voiceHeldRows w i v x =
+    2 when leb (strideOf (w .state)) v ∷ sourceRow (w .state) i ∷ numberRow x ∷ 14 when heldShort w ∷ []
 
 unfoldable pub setVoiceHeld : World → ℕ → ℕ → Float → Done
 unfolding doneBy
@@ -193,13 +203,15 @@ setVoiceLimit w n = doneBy [] w (putState w (withLimit (w .state) (max n 1)))
 
 -- rate by ==, so that the two zeros are alike and a NaN differs from itself
 abbrev pub sameConfig : Config → Config → Bool
-sameConfig a b = eq (a .«sample_rate») (b .«sample_rate») && (eqb (a .«max_frames») (b .«max_frames») && eqb (a .voices) (b .voices))
+sameConfig a b =
+    eq (a .«sample_rate») (b .«sample_rate») && (eqb (a .«max_frames») (b .«max_frames») && eqb (a .voices) (b .voices))
 
 abbrev pub everyFinite : List Float → Bool
 everyFinite [] = true
 everyFinite (x ∷ xs) = finite x && everyFinite xs
 
--- a program's amounts and outputs, which become the engine's. The rates of its slews may be infinite, as those of 0 seconds are
+-- a program's amounts and outputs, which become the engine's. The rates of its slews may be infinite, as those of 0
+-- seconds are
 abbrev pub gainsFinite : Gains → Bool
 gainsFinite g = everyFinite (g .amount) && everyFinite (g .output)
 
@@ -213,7 +225,8 @@ swapRows st p =
 -- the state with p: unprimed, with its compiled amounts and outputs, active voices fresh and renoted
 abbrev pub installed : State → Program → State
 installed st p =
-    withMarks (withPrimed (withGains (withProgram st p) (p .gains)) false) (marksSwapped (st .marks) (st .voices .active))
+    withMarks (withPrimed (withGains (withProgram st p) (p .gains)) false)
+    (marksSwapped (st .marks) (st .voices .active))
 
 -- the memories are the caller's: the state, and the program that comes back
 pub record Swap : Type 0 where

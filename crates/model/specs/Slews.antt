@@ -24,7 +24,8 @@ auxSlew t x f s j r l (X.With i) = cond (not (freeSlew (i .slew)) && movesIn t x
 unfoldable pub sourceAfter : Env → Mix → Rows → Own → ℕ → ℕ → Float
 unfolding plain
 sourceAfter t x f s j l =
-    cond (not (freeSlew (x .route j .source .slew)) && movesIn t x (x .route j) l) (sourceIn t f s j l (x .route j)) (s j 0 l)
+    cond (not (freeSlew (x .route j .source .slew)) && movesIn t x (x .route j) l) (sourceIn t f s j l (x .route j))
+    (s j 0 l)
 
 unfoldable pub auxAfter : Env → Mix → Rows → Own → ℕ → ℕ → Float
 unfolding plain

@@ -1,5 +1,6 @@
--- The sum of a destination in one lane, part after part: the base, the plain offsets as one, the plain products in slot order, then the other routes in slot order
--- (engine.rs 850-905, 1060-1112, 1313-1343; document 01, Chunk and value). Each sum is over the first k routes. Definitions only.
+-- The sum of a destination in one lane, part after part: the base, the plain offsets as one, the plain products in slot
+-- order, then the other routes in slot order (engine.rs 850-905, 1060-1112, 1313-1343; document 01, Chunk and value).
+-- Each sum is over the first k routes. Definitions only.
 use mathlib.Core.Bool.{Bool, true, false, not, cond, _&&_, _||_}
 use Prim.Native.Nat.{ℕ, zero, suc}
 use lib.Ieee.{Float}
@@ -76,7 +77,8 @@ unfoldable pub tickSum : Env → Rows → Own → Mix → ℕ → Float
 unfolding plain plains others inSpan
 tickSum t f s x l = others t f s x l (begun t f s x l) (x .count)
 
--- ---- in audio: old is what stands in the lane. "Lanes outside the active span, where plain routes exist, keep old audio"
+-- ---- in audio: old is what stands in the lane. "Lanes outside the active span, where plain routes exist, keep old
+-- audio"
 
 abbrev pub audioBegun : Env → Rows → Own → Mix → Float → ℕ → Float
 audioBegun t f s x old l = cond (hasPlain t x) (cond (inSpan t l) (plains t f s x l (x .count)) old) (baseIn t x)

@@ -1,5 +1,5 @@
--- A control tick: each control plan's new numbers, where its ramps start, and its slews, plan by plan in the lent values (engine.rs 843-935; document 01, Chunk
--- and value). Definitions only.
+-- A control tick: each control plan's new numbers, where its ramps start, and its slews, plan by plan in the lent
+-- values (engine.rs 843-935; document 01, Chunk and value). Definitions only.
 use mathlib.Core.Bool.{Bool, true, false, not, cond, _&&_, _||_}
 use mathlib.Core.List.{List}
 use Prim.Native.Nat.{ℕ, zero, suc, _+_, _*_}
@@ -41,7 +41,8 @@ unfoldable pub newTo : Env → ℕ → Mix → Rows → Own → (ℕ → Float) 
 unfolding tickSum
 newTo t phase x f s old l = cond (kept t phase x l) (old l) (heldSum t f s x l)
 
--- where the ramp starts: at the new number where a voice starts or the program is not primed, else at the old; from: where it started before
+-- where the ramp starts: at the new number where a voice starts or the program is not primed, else at the old; from:
+-- where it started before
 unfoldable pub newFrom : Env → ℕ → Mix → Rows → Own → (ℕ → Float) → (ℕ → Float) → ℕ → Float
 unfolding tickSum
 newFrom t phase x f s old from l =
@@ -82,7 +83,8 @@ unfolding fillFrom
 putSlews st d g zero m = m
 putSlews st d g (suc k) m =
     let r = planAt st d .first + k in
-    fillFrom (fillFrom (putSlews st d g k m) (ownStart st r 0) (g k 0) (strideOf st)) (ownStart st r 1) (g k 1) (strideOf st)
+    fillFrom (fillFrom (putSlews st d g k m) (ownStart st r 0) (g k 0) (strideOf st)) (ownStart st r 1) (g k 1)
+    (strideOf st)
 
 -- the slews after plan d was worked out
 abbrev pub slewAfter : Env → Mix → Rows → Own → Own
@@ -102,7 +104,8 @@ turn st t phase d m =
     let f = rowsOf st m in
     let s = ownOf st m d in
     let old = rowsOf st m d in
-    putPlan st d (widthOf t x) (newTo t phase x f s old) (newFrom t phase x f s old (lanesFrom m (fromStart st d))) (slewAfter t x f s) m
+    putPlan st d (widthOf t x) (newTo t phase x f s old) (newFrom t phase x f s old (lanesFrom m (fromStart st d)))
+    (slewAfter t x f s) m
 
 -- the turns of the first k plans
 unfoldable pub turns : State → Env → ℕ → ℕ → List Float → List Float

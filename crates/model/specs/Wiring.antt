@@ -33,7 +33,8 @@ abbrev pub looked : Sources → Destinations → ℕ → ℕ → Pick → ℕ �
 looked ss ds n i aux d =
     cond (not (knownSource ss i)) (LeftOut UnknownSource)
     (cond (not (auxKnown ss aux)) (LeftOut UnknownAux)
-    (cond (ltb d (destCount ds)) (Taken (record { slot = n; source = i; aux = auxOf aux; dest = d })) (LeftOut UnknownDestination)))
+    (cond (ltb d (destCount ds)) (Taken (record { slot = n; source = i; aux = auxOf aux; dest = d }))
+    (LeftOut UnknownDestination)))
 
 -- "Missing source or destination: passed over in silence; then bypass, likewise"
 abbrev pub verdictBy : Sources → Destinations → ℕ → Bool → Pick → Pick → Aim → Verdict

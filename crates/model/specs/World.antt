@@ -1,4 +1,5 @@
--- An engine with the memories lent to its calls, and what note values and the load write into them (engine.rs 580-583, 723-731). Definitions only.
+-- An engine with the memories lent to its calls, and what note values and the load write into them (engine.rs 580-583,
+-- 723-731). Definitions only.
 use mathlib.Core.Bool.{Bool, true, false, cond}
 use mathlib.Core.List.{List}
 use Prim.Native.Nat.{ℕ, zero, suc, _+_, _*_}
@@ -24,7 +25,15 @@ pub record World : Type 0 where
 -- by its parts
 abbrev pub worldOf : State → List Float → List Float → List Float → List Float → List Float → List Float → World
 worldOf st held globals bases values audio tables =
-    record { state = st; held = held; globals = globals; bases = bases; values = values; audio = audio; tables = tables }
+    record {
+      state = st;
+      held = held;
+      globals = globals;
+      bases = bases;
+      values = values;
+      audio = audio;
+      tables = tables;
+    }
 
 abbrev pub noMark : SourceMark
 noMark = record { kind = K.Signal; scope = S.Voice }

@@ -59,15 +59,18 @@ absOf nan = nan
 absOf (inf s) = inf false
 absOf (fin s m e) = fin false m e
 
--- Rust's `as usize` of a float: the whole part, 0 for a NaN and below 1, the largest number beyond the range (curve.rs 141)
+-- Rust's `as usize` of a float: the whole part, 0 for a NaN and below 1, the largest number beyond the range (curve.rs
+-- 141)
 abbrev pub wholePart : Float → ℕ
 wholePart x = toUnsigned 64 x
 
--- Rust's `as f32` of a whole number of 64 bits: the nearest binary32 (engine.rs 581; document 01, Chunk and value: load)
+-- Rust's `as f32` of a whole number of 64 bits: the nearest binary32 (engine.rs 581; document 01, Chunk and value:
+-- load)
 abbrev pub nearest32 : ℕ → Float
 nearest32 n = ofInt binary32 (pos n)
 
--- n in units of 2 ^ 16, on the way to its nearest binary32. The last digit stands for the lower 17 of n: it is 0 where they are all 0
+-- n in units of 2 ^ 16, on the way to its nearest binary32. The last digit stands for the lower 17 of n: it is 0 where
+-- they are all 0
 unfoldable pub sticky : ℕ → ℕ
 sticky n = n / 2 ^ 17 * 2 + cond (eqb (n % 2 ^ 17) 0) 0 1
 

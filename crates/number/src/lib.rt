@@ -1,6 +1,8 @@
-// Single numbers of 32 bits: what the language's own operators leave out. The definitions that contracts cite are in specs/Number.antt.
+// Single numbers of 32 bits: what the language's own operators leave out. The definitions that contracts cite are in
+// specs/Number.antt.
 ghost use mathlib.Core.Path.{_≡_};
-ghost use Rattle.number.specs.Number.{finite, max32, min32, hold, clampTo, absOf, wholePart, nearest32, sticky, same};
+ghost use Rattle.number.specs.Number.{finite, max32, min32, hold, clampTo, absOf, wholePart, nearest32, sticky};
+ghost use Rattle.number.specs.Number.{same};
 
 // whether x is neither a NaN nor an infinity
 pub fn is_finite(x: f32) -> bool
@@ -95,8 +97,9 @@ fn with_sticky_digit(n: u64) -> u64
     }
 }
 
-// The f32 nearest to n. Below 2^48 n has two parts of 24 digits, each of them a float exactly, and so is the upper one times 2^24: only the sum
-// rounds. From 2^48 on the rounding drops 25 digits or more, so of the last 17 it matters only whether they are all 0.
+// The f32 nearest to n. Below 2^48 n has two parts of 24 digits, each of them a float exactly, and so is the upper one
+// times 2^24: only the sum rounds. From 2^48 on the rounding drops 25 digits or more, so of the last 17 it matters only
+// whether they are all 0.
 pub fn nearest_u64_to_f32(n: u64) -> f32
     ensures { λ r. ⌜ r ≡ nearest32 n ⌝ }
 {

@@ -25,7 +25,8 @@ use Rattle.state.specs.declared.Program.{Program}
 use Rattle.state.specs.declared.Wiring.{Wiring}
 use Rattle.slots.specs.Slots.{emptySlot, numbersFinite, allFinite, withAmount}
 use Rattle.slots.specs.Matrix.{newMatrix, withSlots, withSlot, withVelocity}
-use Rattle.slots_tables.specs.Tables.{velocityPlace, slotNames, anyNames, namesTable, placeAllowed, slotAllowed, slotsAllowed, namedAllowed}
+use Rattle.slots_tables.specs.Tables.{velocityPlace, slotNames, anyNames, namesTable, placeAllowed, slotAllowed}
+use Rattle.slots_tables.specs.Tables.{slotsAllowed, namedAllowed}
 use Rattle.model.specs.Wiring.{verdict, verdictsFrom, verdicts, candidates, skippedOf}
 use Rattle.model.specs.Feeds.{inUse, controls, audios, reads, readersOf, isAudio, planOrder}
 use Rattle.model.specs.Plans.{plansOf, allRoutes, compiled}
@@ -34,12 +35,15 @@ use Rattle.program.specs.declared.PlanRead.the-variants as P
 use Rattle.program.specs.declared.RouteRead.the-variants as R
 use Rattle.program.specs.declared.SkippedRead.the-variants as S
 use Rattle.program.specs.declared.RateRead.the-variants as T
-use Rattle.program.specs.Readers.{routeCount, planCount, skipCount, planAt, routeAt, skippedAt, rateFrom, rateOf, configOf}
+use Rattle.program.specs.Readers.{routeCount, planCount, skipCount, planAt, routeAt, skippedAt, rateFrom, rateOf}
+use Rattle.program.specs.Readers.{configOf}
 
--- ---- what a program tells: destination 5 at audio rate, 7 at control rate; more routes than there can be; slot 9 left out
+-- ---- what a program tells: destination 5 at audio rate, 7 at control rate; more routes than there can be; slot 9 left
+-- out
 
 abbrev planOf : ℕ → Bool → Plan
-planOf d audio = record { dest = d; voice = false; audio = audio; min = zero32; max = one32; base = B.Set; first = 0; count = 1 }
+planOf d audio =
+    record { dest = d; voice = false; audio = audio; min = zero32; max = one32; base = B.Set; first = 0; count = 1 }
 
 abbrev sized : Config
 sized = record { «sample_rate» = one32; «max_frames» = 64; voices = 1 }
@@ -87,18 +91,33 @@ rates = (refl, refl, refl)
 abbrev at : Float → ℕ → Config
 at rate frames = record { «sample_rate» = rate; «max_frames» = frames; voices = 1 }
 
-empties : (emptyProgram (at one32 64) ≡ record { code = 0; program = emptyOf (at one32 64) }) × (emptyProgram (at nan 5000) .code ≡ 6) × (emptyProgram (at one32 4097) .code ≡ 13)
+empties : (emptyProgram (at one32 64) ≡ record { code = 0; program = emptyOf (at one32 64) })
+    × (emptyProgram (at nan 5000) .code ≡ 6) × (emptyProgram (at one32 4097) .code ≡ 13)
 unfolding emptyProgram finite le
 empties = (refl, refl, refl)
 
 abbrev wired : Matrix → Config → Wiring
-wired m c = record { matrix = m; sources = record { count = 0; entry = [] }; dests = record { count = 0; entry = [] }; config = c }
+wired m c =
+    record {
+      matrix = m;
+      sources = record { count = 0; entry = [] };
+      dests = record { count = 0; entry = [] };
+      config = c;
+    }
 
 -- the number of compiling m for c with tables lent and no other memory
 abbrev code : Matrix → Config → List Float → ℕ
 code m c tables = compile (wired m c) tables (record { values = []; audio = []; tables = [] }) .answer .code
 
--- a slot's amount that is not a number is 6, before a rate of 0; a named table that is not there is 14, and one that holds 17 is 6; a program without plans needs nothing
-codes : (code newMatrix (at one32 64) [] ≡ 0) × (code newMatrix (at zero32 64) [] ≡ 13) × (code (withSlot newMatrix (slots - 1) (withAmount nan emptySlot)) (at zero32 64) [] ≡ 6) × (code (withVelocity newMatrix N.Table) (at one32 64) [] ≡ 14) × (code (withVelocity newMatrix N.Table) (at one32 64) (replicate (velocityPlace * points) zero32 ++ (fin false 17 (pos 0) ∷ [])) ≡ 6)
-unfolding compile judged namesTable anyNames slotNames namedAllowed slotsAllowed slotAllowed placeAllowed rowAt part allAllowed allowed allFinite numbersFinite secondsFinite finite le newMatrix withSlot withSlots withVelocity withAmount emptySlot compiled padded verdict verdictsFrom verdicts candidates skippedOf inUse controls audios reads readersOf isAudio planOrder order plansOf allRoutes
+-- a slot's amount that is not a number is 6, before a rate of 0; a named table that is not there is 14, and one that
+-- holds 17 is 6; a program without plans needs nothing
+codes : (code newMatrix (at one32 64) [] ≡ 0) × (code newMatrix (at zero32 64) [] ≡ 13)
+    × (code (withSlot newMatrix (slots - 1) (withAmount nan emptySlot)) (at zero32 64) [] ≡ 6)
+    × (code (withVelocity newMatrix N.Table) (at one32 64) [] ≡ 14)
+    × (code (withVelocity newMatrix N.Table) (at one32 64)
+    (replicate (velocityPlace * points) zero32 ++ (fin false 17 (pos 0) ∷ [])) ≡ 6)
+unfolding compile judged namesTable anyNames slotNames namedAllowed slotsAllowed slotAllowed placeAllowed rowAt part
+    allAllowed allowed allFinite numbersFinite secondsFinite finite le newMatrix withSlot withSlots withVelocity
+    withAmount emptySlot compiled padded verdict verdictsFrom verdicts candidates skippedOf inUse controls audios reads
+    readersOf isAudio planOrder order plansOf allRoutes
 codes = (refl, refl, refl, refl, refl)

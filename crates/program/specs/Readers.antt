@@ -1,4 +1,5 @@
--- What a program tells of itself (program.rs 240-268; docs/CALLS.md, program). Counts above the arrays' length read as it. Definitions only.
+-- What a program tells of itself (program.rs 240-268; docs/CALLS.md, program). Counts above the arrays' length read as
+-- it. Definitions only.
 use mathlib.Core.Bool.{Bool, true, false, cond}
 use mathlib.Core.List.{List, [], _∷_}
 use Prim.Native.Nat.{ℕ, min}

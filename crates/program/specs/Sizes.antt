@@ -21,6 +21,8 @@ unfoldable pub maxChunksCall : Config → Count
 maxChunksCall c = counted (configCode (c .«sample_rate») (c .«max_frames») (c .voices)) (mostChunks (c .«max_frames»))
 
 -- 17 voices and 64 frames: rows of 32 numbers, and 4 chunks at most; 65 voices are refused
-example : (strideCall (record { «sample_rate» = one32; «max_frames» = 64; voices = 17 }) ≡ record { code = 0; n = 32 }) × (maxChunksCall (record { «sample_rate» = one32; «max_frames» = 64; voices = 17 }) ≡ record { code = 0; n = 4 }) × (strideCall (record { «sample_rate» = one32; «max_frames» = 64; voices = 65 }) ≡ record { code = 13; n = 0 })
+example : (strideCall (record { «sample_rate» = one32; «max_frames» = 64; voices = 17 }) ≡ record { code = 0; n = 32 })
+    × (maxChunksCall (record { «sample_rate» = one32; «max_frames» = 64; voices = 17 }) ≡ record { code = 0; n = 4 })
+    × (strideCall (record { «sample_rate» = one32; «max_frames» = 64; voices = 65 }) ≡ record { code = 13; n = 0 })
 unfolding strideCall maxChunksCall configCode finite le
 example = (refl, refl, refl)

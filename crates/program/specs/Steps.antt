@@ -19,16 +19,20 @@ use Rattle.model.specs.Compile.{numbersAllowed}
 unfoldable pub earlyCode : Matrix → List Float → Config → ℕ
 unfolding judged firstOf configCode
 earlyCode m tables c =
-    firstOf (judged (6 when not (numbersAllowed m tables) ∷ [])) (configCode (c .«sample_rate») (c .«max_frames») (c .voices))
+    firstOf (judged (6 when not (numbersAllowed m tables) ∷ []))
+    (configCode (c .«sample_rate») (c .«max_frames») (c .voices))
 
 -- a program's need, its counts held to their limits
 unfoldable pub heldValues : Program → ℕ
 heldValues p =
-    valuesNeed (min (p .config .voices) mostVoices) (min (p .config .«max_frames») mostFrames) (min (p .plans) slots) (min (p .routes) slots)
+    valuesNeed (min (p .config .voices) mostVoices) (min (p .config .«max_frames») mostFrames) (min (p .plans) slots)
+    (min (p .routes) slots)
 
 unfoldable pub heldAudio : Program → ℕ
-heldAudio p = audioNeed (min (p .config .voices) mostVoices) (min (p .config .«max_frames») mostFrames) (min (p .plans) slots)
+heldAudio p =
+    audioNeed (min (p .config .voices) mostVoices) (min (p .config .«max_frames») mostFrames) (min (p .plans) slots)
 
 -- the tables replaced, where one is named and there is room
 unfoldable pub copied : Bool → List Float → List Float → List Float
-copied named to from = cond (named && not (ltb (length to) tablesNeed || ltb (length from) tablesNeed)) (withTables to from) to
+copied named to from =
+    cond (named && not (ltb (length to) tablesNeed || ltb (length from) tablesNeed)) (withTables to from) to

@@ -10,7 +10,8 @@ ghost use Rattle.model.specs.Compile.{emptyOf, emptyProgram, numbersAllowed, co
 ghost use Rattle.program.specs.Sizes.{strideCall, maxChunksCall};
 ghost use Rattle.program.specs.Replies.{planReply, routeReply, skippedReply, rateReply};
 ghost use Rattle.program.specs.Replies.{planSays, routeSays, skippedSays, rateSays};
-ghost use Rattle.program.specs.Readers.{routeCount, planCount, planAt, routeAt, skipCount, skippedAt, rateBy, rateOf, configOf};
+ghost use Rattle.program.specs.Readers.{routeCount, planCount, planAt, routeAt, skipCount, skippedAt, rateBy};
+ghost use Rattle.program.specs.Readers.{rateOf, configOf};
 ghost use Rattle.program.specs.Steps.{earlyCode, heldValues, heldAudio, copied};
 use config::Config;
 use slots_tables::TABLES;
@@ -63,7 +64,11 @@ pub fn max_chunks(config: Config) -> Count
 
 // a refusal, with the empty program for rate 1, 0 frames, 0 voices
 fn refused(code: u8) -> Compiled
-    ensures { λ r. ⌜ r ≡ record { code = code; program = emptyOf (record { «sample_rate» = one32; «max_frames» = 0; voices = 0 }) } ⌝ }
+    ensures { λ r. ⌜ r ≡ record {
+      code = code;
+      program = emptyOf
+          (record { «sample_rate» = one32; «max_frames» = 0; voices = 0 });
+    } ⌝ }
 {
     let none = Config {
         sample_rate: 1.0,
@@ -187,8 +192,26 @@ pub fn compile(
     audio: &mut [f32],
     tables: &mut [f32],
 ) -> Compiled
-    ensures answer { λ r. ⌜ r ≡ compile (record { matrix = matrix; sources = sources; dests = dests; config = config }) (now («matrix_tables» .entry)) (record { values = now (values .entry); audio = now (audio .entry); tables = now (tables .entry) }) .answer ⌝ }
-    ensures lent { λ _. ⌜ record { values = now (values .exit); audio = now (audio .exit); tables = now (tables .exit) } ≡ compile (record { matrix = matrix; sources = sources; dests = dests; config = config }) (now («matrix_tables» .entry)) (record { values = now (values .entry); audio = now (audio .entry); tables = now (tables .entry) }) .lent ⌝ }
+    ensures answer { λ r. ⌜ r ≡ compile
+        (record { matrix = matrix; sources = sources; dests = dests; config = config })
+        (now («matrix_tables» .entry))
+        (record {
+          values = now (values .entry);
+          audio = now (audio .entry);
+          tables = now (tables .entry);
+        }) .answer ⌝ }
+    ensures lent { λ _. ⌜ record {
+      values = now (values .exit);
+      audio = now (audio .exit);
+      tables = now (tables .exit);
+    }
+        ≡ compile (record { matrix = matrix; sources = sources; dests = dests; config = config })
+        (now («matrix_tables» .entry))
+        (record {
+          values = now (values .entry);
+          audio = now (audio .entry);
+          tables = now (tables .entry);
+        }) .lent ⌝ }
 {
     let early = early_code(matrix, matrix_tables, config);
     if early != 0 {

@@ -1,6 +1,6 @@
--- How a call judges: its rows in the order in which they are judged, each a number and whether it applies to this call. The first that applies is
--- the answer, and 0, accepted, where none does (document 01, Numbers that a call hands back: "The lowest number that applies is returned, and a number
--- only when its row applies to that call"). Definitions only.
+-- How a call judges: its rows in the order in which they are judged, each a number and whether it applies to this call.
+-- The first that applies is the answer, and 0, accepted, where none does (document 01, Numbers that a call hands back:
+-- "The lowest number that applies is returned, and a number only when its row applies to that call"). Definitions only.
 use mathlib.Core.Path.{_≡_, refl}
 use mathlib.Core.Bool.{Bool, true, false, cond, _&&_}
 use mathlib.Core.List.{List, [], _∷_, _++_, List·Memᴰ}

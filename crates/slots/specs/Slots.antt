@@ -1,4 +1,5 @@
--- A slot of the matrix, each with one field replaced, and lists of slots (document 01, Slot; matrix.rs 30-81, 194-236). Definitions only.
+-- A slot of the matrix, each with one field replaced, and lists of slots (document 01, Slot; matrix.rs 30-81, 194-236).
+-- Definitions only.
 use mathlib.Core.Bool.{Bool, true, false, cond, _&&_}
 use mathlib.Core.List.{List, [], _∷_}
 use Prim.Native.Nat.{ℕ, suc, _+_}
@@ -20,7 +21,8 @@ use Rattle.state.specs.declared.Slot.{Slot}
 
 -- ---- a slot
 
--- no source, aux or destination, linear curves, amount 0, output 1, one way, not inverted, not bypassed (matrix.rs 57-72)
+-- no source, aux or destination, linear curves, amount 0, output 1, one way, not inverted, not bypassed (matrix.rs
+-- 57-72)
 unfoldable pub emptySlot : Slot
 emptySlot =
     record {
@@ -89,25 +91,109 @@ cleared t s = cond (aimsAt t (s .destination)) emptySlot s
 -- ---- a slot with one field replaced
 
 unfoldable pub withAmount : Float → Slot → Slot
-withAmount x s = record { source = s .source; «source_curve» = s .«source_curve»; amount = x; polarity = s .polarity; destination = s .destination; aux = s .aux; «aux_invert» = s .«aux_invert»; «aux_curve» = s .«aux_curve»; output = s .output; bypass = s .bypass }
+withAmount x s =
+    record {
+      source = s .source;
+      «source_curve» = s .«source_curve»;
+      amount = x;
+      polarity = s .polarity;
+      destination = s .destination;
+      aux = s .aux;
+      «aux_invert» = s .«aux_invert»;
+      «aux_curve» = s .«aux_curve»;
+      output = s .output;
+      bypass = s .bypass;
+    }
 
 unfoldable pub withOutput : Float → Slot → Slot
-withOutput x s = record { source = s .source; «source_curve» = s .«source_curve»; amount = s .amount; polarity = s .polarity; destination = s .destination; aux = s .aux; «aux_invert» = s .«aux_invert»; «aux_curve» = s .«aux_curve»; output = x; bypass = s .bypass }
+withOutput x s =
+    record {
+      source = s .source;
+      «source_curve» = s .«source_curve»;
+      amount = s .amount;
+      polarity = s .polarity;
+      destination = s .destination;
+      aux = s .aux;
+      «aux_invert» = s .«aux_invert»;
+      «aux_curve» = s .«aux_curve»;
+      output = x;
+      bypass = s .bypass;
+    }
 
 unfoldable pub withBypass : Bool → Slot → Slot
-withBypass b s = record { source = s .source; «source_curve» = s .«source_curve»; amount = s .amount; polarity = s .polarity; destination = s .destination; aux = s .aux; «aux_invert» = s .«aux_invert»; «aux_curve» = s .«aux_curve»; output = s .output; bypass = b }
+withBypass b s =
+    record {
+      source = s .source;
+      «source_curve» = s .«source_curve»;
+      amount = s .amount;
+      polarity = s .polarity;
+      destination = s .destination;
+      aux = s .aux;
+      «aux_invert» = s .«aux_invert»;
+      «aux_curve» = s .«aux_curve»;
+      output = s .output;
+      bypass = b;
+    }
 
 unfoldable pub withPolarity : Polarity → Slot → Slot
-withPolarity p s = record { source = s .source; «source_curve» = s .«source_curve»; amount = s .amount; polarity = p; destination = s .destination; aux = s .aux; «aux_invert» = s .«aux_invert»; «aux_curve» = s .«aux_curve»; output = s .output; bypass = s .bypass }
+withPolarity p s =
+    record {
+      source = s .source;
+      «source_curve» = s .«source_curve»;
+      amount = s .amount;
+      polarity = p;
+      destination = s .destination;
+      aux = s .aux;
+      «aux_invert» = s .«aux_invert»;
+      «aux_curve» = s .«aux_curve»;
+      output = s .output;
+      bypass = s .bypass;
+    }
 
 unfoldable pub withAux : Pick → Bool → Slot → Slot
-withAux p b s = record { source = s .source; «source_curve» = s .«source_curve»; amount = s .amount; polarity = s .polarity; destination = s .destination; aux = p; «aux_invert» = b; «aux_curve» = s .«aux_curve»; output = s .output; bypass = s .bypass }
+withAux p b s =
+    record {
+      source = s .source;
+      «source_curve» = s .«source_curve»;
+      amount = s .amount;
+      polarity = s .polarity;
+      destination = s .destination;
+      aux = p;
+      «aux_invert» = b;
+      «aux_curve» = s .«aux_curve»;
+      output = s .output;
+      bypass = s .bypass;
+    }
 
 unfoldable pub withSourceCurve : Curve → Slot → Slot
-withSourceCurve k s = record { source = s .source; «source_curve» = k; amount = s .amount; polarity = s .polarity; destination = s .destination; aux = s .aux; «aux_invert» = s .«aux_invert»; «aux_curve» = s .«aux_curve»; output = s .output; bypass = s .bypass }
+withSourceCurve k s =
+    record {
+      source = s .source;
+      «source_curve» = k;
+      amount = s .amount;
+      polarity = s .polarity;
+      destination = s .destination;
+      aux = s .aux;
+      «aux_invert» = s .«aux_invert»;
+      «aux_curve» = s .«aux_curve»;
+      output = s .output;
+      bypass = s .bypass;
+    }
 
 unfoldable pub withAuxCurve : Curve → Slot → Slot
-withAuxCurve k s = record { source = s .source; «source_curve» = s .«source_curve»; amount = s .amount; polarity = s .polarity; destination = s .destination; aux = s .aux; «aux_invert» = s .«aux_invert»; «aux_curve» = k; output = s .output; bypass = s .bypass }
+withAuxCurve k s =
+    record {
+      source = s .source;
+      «source_curve» = s .«source_curve»;
+      amount = s .amount;
+      polarity = s .polarity;
+      destination = s .destination;
+      aux = s .aux;
+      «aux_invert» = s .«aux_invert»;
+      «aux_curve» = k;
+      output = s .output;
+      bypass = s .bypass;
+    }
 
 -- ---- a slot's numbers
 

@@ -1,9 +1,13 @@
-// A slot of the matrix, the walks over its slots, and the matrix with a part replaced. The definitions that contracts cite are in specs/.
+// A slot of the matrix, the walks over its slots, and the matrix with a part replaced. The definitions that contracts
+// cite are in specs/.
 ghost use mathlib.Core.Path.{_≡_};
 ghost use mathlib.Core.List.{map};
 ghost use Prim.Native.Nat.{_≤_};
 ghost use Rattle.slots.specs.Matrix.{slotOf, withSlots, withVelocity, withKey};
-ghost use Rattle.slots.specs.Slots.{emptySlot, noSource, noDestination, isEmptySlot, routeSlot, keptAmount, keptOutput, withAmount, withOutput, withBypass, withPolarity, withAux, withSourceCurve, withAuxCurve, numbersFinite, allFinite, firstEmpty, aimsAt, cleared, oneIf, countAims};
+ghost use Rattle.slots.specs.Slots.{emptySlot, noSource, noDestination, isEmptySlot, routeSlot, keptAmount};
+ghost use Rattle.slots.specs.Slots.{keptOutput, withAmount, withOutput, withBypass, withPolarity, withAux};
+ghost use Rattle.slots.specs.Slots.{withSourceCurve, withAuxCurve, numbersFinite, allFinite, firstEmpty, aimsAt};
+ghost use Rattle.slots.specs.Slots.{cleared, oneIf, countAims};
 use config::SLOTS;
 use curve_table::Curve;
 use state::Aim;

@@ -18,7 +18,8 @@ use Rattle.state.specs.declared.NoteCurve.{NoteCurve}
 use Rattle.state.specs.declared.NoteCurve.the-variants as N
 use Rattle.state.specs.declared.Slot.{Slot}
 use Rattle.state.specs.declared.Matrix.{Matrix}
-use Rattle.slots_tables.specs.Tables.{slotNames, anyNames, namesTable, placeAllowed, slotAllowed, slotsAllowed, namedAllowed}
+use Rattle.slots_tables.specs.Tables.{slotNames, anyNames, namesTable, placeAllowed, slotAllowed, slotsAllowed}
+use Rattle.slots_tables.specs.Tables.{namedAllowed}
 
 -- a slot with these curves, and a matrix of two slots
 curved : Curve → Curve → Slot
@@ -48,7 +49,8 @@ bent-source = curved (C.Table zero32 zero32) C.Linear
 bent-aux : Slot
 bent-aux = curved C.Linear (C.Table zero32 zero32)
 
-naming : (namesTable (of plain plain N.Linear) ≡ false) × (namesTable (of plain bent-aux N.Linear) ≡ true) × (namesTable (of plain plain N.Table) ≡ true)
+naming : (namesTable (of plain plain N.Linear) ≡ false) × (namesTable (of plain bent-aux N.Linear) ≡ true)
+    × (namesTable (of plain plain N.Table) ≡ true)
 unfolding namesTable anyNames slotNames curved of plain bent-aux
 naming = (refl, refl, refl)
 
@@ -57,6 +59,10 @@ memory : List Float
 memory = replicate 513 zero32 ++ (nan ∷ replicate 512 zero32 ++ (fin false 17 (pos 0) ∷ []))
 
 -- a place that no curve names is not looked at
-judging : (namedAllowed (of plain plain N.Linear) memory ≡ true) × (namedAllowed (of bent-source bent-aux N.Table) memory ≡ true) × (namedAllowed (of bent-aux plain N.Linear) memory ≡ false) × (namedAllowed (of plain bent-source N.Linear) memory ≡ false)
-unfolding namedAllowed slotsAllowed slotAllowed placeAllowed rowAt part allAllowed allowed finite le curved of plain bent-source bent-aux memory
+judging : (namedAllowed (of plain plain N.Linear) memory ≡ true)
+    × (namedAllowed (of bent-source bent-aux N.Table) memory ≡ true)
+    × (namedAllowed (of bent-aux plain N.Linear) memory ≡ false)
+    × (namedAllowed (of plain bent-source N.Linear) memory ≡ false)
+unfolding namedAllowed slotsAllowed slotAllowed placeAllowed rowAt part allAllowed allowed finite le curved of plain
+    bent-source bent-aux memory
 judging = (refl, refl, refl, refl)

@@ -69,7 +69,8 @@ allowedWhere named tables p = not named || placeAllowed tables p
 
 unfoldable pub slotAllowed : List Float → ℕ → Slot → Bool
 slotAllowed tables n s =
-    allowedWhere (not (isLinear (s .«source_curve»))) tables (slotPlace n 0) && allowedWhere (not (isLinear (s .«aux_curve»))) tables (slotPlace n 1)
+    allowedWhere (not (isLinear (s .«source_curve»))) tables (slotPlace n 0)
+    && allowedWhere (not (isLinear (s .«aux_curve»))) tables (slotPlace n 1)
 
 -- those of slots n, n + 1, ..
 unfoldable pub slotsAllowed : List Float → ℕ → List Slot → Bool
@@ -79,7 +80,8 @@ slotsAllowed tables n (s ∷ l) = slotAllowed tables n s && slotsAllowed tables 
 -- every named place
 unfoldable pub namedAllowed : Matrix → List Float → Bool
 namedAllowed m tables =
-    allowedWhere (isTable (m .velocity)) tables velocityPlace && (allowedWhere (isTable (m .key)) tables keyPlace && slotsAllowed tables 0 (m .slot))
+    allowedWhere (isTable (m .velocity)) tables velocityPlace
+    && (allowedWhere (isTable (m .key)) tables keyPlace && slotsAllowed tables 0 (m .slot))
 
 -- the places do not meet: after the last slot's come the note curves', and then no more
 last-slot : (slotPlace (slots - 1) 1 + 1 ≡ velocityPlace) × (velocityPlace + 1 ≡ keyPlace) × (keyPlace + 1 ≡ places)

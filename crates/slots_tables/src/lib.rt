@@ -1,4 +1,5 @@
-// The matrix's lent tables: which places a matrix names, and what is written to and judged of them. The definitions are in specs/Tables.antt.
+// The matrix's lent tables: which places a matrix names, and what is written to and judged of them. The definitions are
+// in specs/Tables.antt.
 ghost use mathlib.Core.Path.{_≡_};
 ghost use mathlib.Core.Bool.{not};
 ghost use mathlib.Core.List.{[], _∷_};
@@ -9,7 +10,9 @@ ghost use Rattle.refusal.specs.Judge.{judged, _when_};
 ghost use Rattle.config.specs.Sizes.{slots};
 ghost use Rattle.curve_table.specs.Table.{points};
 ghost use Rattle.slots_tables.specs.Rows.{finiteRow, curveAllowed};
-ghost use Rattle.slots_tables.specs.Tables.{places, slotPlace, tablesNeed, withTable, withTables, isTable, slotNames, anyNames, namesTable, placeAllowed, allowedWhere, slotAllowed, slotsAllowed, namedAllowed};
+ghost use Rattle.slots_tables.specs.Tables.{places, slotPlace, tablesNeed, withTable, withTables, isTable};
+ghost use Rattle.slots_tables.specs.Tables.{slotNames, anyNames, namesTable, placeAllowed, allowedWhere};
+ghost use Rattle.slots_tables.specs.Tables.{slotAllowed, slotsAllowed, namedAllowed};
 use config::SLOTS;
 use curve_table::POINTS;
 use state::Matrix;
@@ -189,7 +192,8 @@ pub fn named_allowed(matrix: Matrix, tables: &[f32]) -> bool
 
 // rows 6, 14 and 15 of a lent table
 pub fn rows_of_table(allowed: bool, tables: usize, table: usize) -> u8
-    ensures { λ r. ⌜ r ≡ judged (finiteRow allowed ∷ 14 when ltb tables tablesNeed ∷ 15 when not (eqb table points) ∷ []) ⌝ }
+    ensures { λ r. ⌜ r ≡ judged (finiteRow allowed ∷ 14 when ltb tables tablesNeed ∷ 15 when not (eqb table points)
+        ∷ []) ⌝ }
 {
     if !allowed {
         return 6;

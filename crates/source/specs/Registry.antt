@@ -1,5 +1,5 @@
--- The registry of sources: its entries, "numbered from 0 in order of adding" (document 01, Source entry; source.rs 171-213, 326-346).
--- Definitions only.
+-- The registry of sources: its entries, "numbered from 0 in order of adding" (document 01, Source entry; source.rs
+-- 171-213, 326-346). Definitions only.
 use mathlib.Core.Bool.{Bool, true, false, cond}
 use mathlib.Core.List.{List, [], _∷_}
 use Prim.Native.Nat.{ℕ, zero, suc, _+_, min}

@@ -1,4 +1,5 @@
--- The standard sources: which entries, in which order, and what refuses them (source.rs 146-160, 216-322; docs/CALLS.md). Definitions only.
+-- The standard sources: which entries, in which order, and what refuses them (source.rs 146-160, 216-322;
+-- docs/CALLS.md). Definitions only.
 use mathlib.Core.Bool.{Bool, true, false, cond, _&&_, _||_}
 use mathlib.Core.List.{List, [], _∷_}
 use Prim.Native.Nat.{ℕ, zero, suc, _+_, _*_}
@@ -16,7 +17,10 @@ use Rattle.source.specs.Keys.{mostKeyBytes}
 use Rattle.source_key.specs.Bytes.{sameBytes}
 use Rattle.source.specs.Info.{usualInfo, infoVoice, infoBipolar}
 use Rattle.source.specs.Registry.{noSources, registered, findKey, isAt, newEntry, withEntry}
-use Rattle.source.specs.Named.{envWord, lfoWord, afterY, macroWord, seqWord, velocityKey, keyKey, channelPressureKey, polyPressureKey, random1Key, random2Key, alternate1Key, alternate2Key, modWheelKey, pitchBendKey, mpeXKey, mpeYKey, mpeZKey, releaseVelocityKey, constantKey, voiceLoadKey, seqIndexKey, randomRouteKey}
+use Rattle.source.specs.Named.{envWord, lfoWord, afterY, macroWord, seqWord, velocityKey, keyKey}
+use Rattle.source.specs.Named.{channelPressureKey, polyPressureKey, random1Key, random2Key, alternate1Key}
+use Rattle.source.specs.Named.{alternate2Key, modWheelKey, pitchBendKey, mpeXKey, mpeYKey, mpeZKey}
+use Rattle.source.specs.Named.{releaseVelocityKey, constantKey, voiceLoadKey, seqIndexKey, randomRouteKey}
 use Rattle.source_key.specs.Numbered.{numberedKey, isNumbered}
 
 -- ---- the entries, each after those before it
@@ -42,7 +46,8 @@ withNumbered word after info n s = counted (λ k. withSource (numberedKey word a
 -- lfo1, lfo1_y, lfo2, lfo2_y, .. (source.rs 241-252)
 unfoldable pub lfoPair : ℕ → Sources → Sources
 lfoPair k s =
-    withSource (numberedKey lfoWord afterY k) (usualInfo K.Signal) (withSource (numberedKey lfoWord [] k) (usualInfo K.Signal) s)
+    withSource (numberedKey lfoWord afterY k) (usualInfo K.Signal)
+    (withSource (numberedKey lfoWord [] k) (usualInfo K.Signal) s)
 
 unfoldable pub withLfos : ℕ → Sources → Sources
 withLfos n s = counted lfoPair n s
@@ -121,7 +126,8 @@ has key s = isAt (findKey 0 key (registered s))
 -- the keys without a number
 unfoldable pub fixedSources : Sources
 fixedSources =
-    withSource randomRouteKey (usualInfo K.RandomPerRoute) (withSource voiceLoadKey (usualInfo K.VoiceLoad) (withControllers (withNoteSources noSources)))
+    withSource randomRouteKey (usualInfo K.RandomPerRoute)
+    (withSource voiceLoadKey (usualInfo K.VoiceLoad) (withControllers (withNoteSources noSources)))
 
 -- whether it is a sequence value's key or, where there are any, the index's
 unfoldable pub sequenceKey : ℕ → List ℕ → Bool

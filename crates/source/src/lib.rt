@@ -9,11 +9,16 @@ ghost use Rattle.refusal.specs.Judge.{judged};
 ghost use Rattle.config.specs.Sizes.{mostSources};
 ghost use Rattle.source.specs.Keys.{mostKeyBytes, keyLength, keyIs, keyArray};
 ghost use Rattle.state.specs.Registry.{noSource as blankEntry, sourceCount};
-ghost use Rattle.source.specs.Registry.{noSources, sourcesEmpty, registered, getSource, findKey, isAt, findSource, addRows, withEntry, addSource};
+ghost use Rattle.source.specs.Registry.{noSources, sourcesEmpty, registered, getSource, findKey, isAt};
+ghost use Rattle.source.specs.Registry.{findSource, addRows, withEntry, addSource};
 ghost use Rattle.source.specs.Registry.{foundReply, foundSays};
-ghost use Rattle.source.specs.Info.{engineOwned, usualScope, usualRange, usualInfo, infoVoice, infoGlobal, infoBipolar};
+ghost use Rattle.source.specs.Info.{engineOwned, usualScope, usualRange, usualInfo, infoVoice, infoGlobal};
+ghost use Rattle.source.specs.Info.{infoBipolar};
 ghost use Rattle.source_key.specs.Numbered.{numberedKey};
-ghost use Rattle.source.specs.Standard.{heldInfo, audioInfo, withSource, withNumbered, lfoPair, withLfos, withNoteSources, withControllers, withAudio, withSequence, allSources, audioKeys, total, anyLong, anySame, has, fixedSources, sequenceKey, standardKey, clashes, standardCount, standardRows, standardSources};
+ghost use Rattle.source.specs.Standard.{heldInfo, audioInfo, withSource, withNumbered, lfoPair, withLfos};
+ghost use Rattle.source.specs.Standard.{withNoteSources, withControllers, withAudio, withSequence, allSources};
+ghost use Rattle.source.specs.Standard.{audioKeys, total, anyLong, anySame, has, fixedSources, sequenceKey};
+ghost use Rattle.source.specs.Standard.{standardKey, clashes, standardCount, standardRows, standardSources};
 use config::SOURCES;
 use state::KEY_BYTES;
 use state::Kind;
@@ -629,7 +634,8 @@ fn is_standard(counts: Counts, fixed: Sources, key: &[u8]) -> bool
 // Whether one of the keys from number `first` on, which starts at byte `from`, is this key.
 fn any_same(key: &[u8], bytes: &[u8], from: usize, lengths: &[usize], first: usize) -> bool
     requires { ⌜ (from ≤ length (now bytes)) × (first ≤ length (now lengths)) ⌝ }
-    ensures { λ r. ⌜ r ≡ anySame (now (key .entry)) (audioKeys (drop from (now (bytes .entry))) (drop first (now (lengths .entry)))) ⌝ }
+    ensures { λ r. ⌜ r ≡ anySame (now (key .entry))
+        (audioKeys (drop from (now (bytes .entry))) (drop first (now (lengths .entry)))) ⌝ }
 {
     let mut at = from;
     let mut i = first;
@@ -659,7 +665,9 @@ fn key_clashes(
     next: usize,
 ) -> bool
     requires { ⌜ (fixed ≡ fixedSources) × (at ≤ end) × (end ≤ length (now bytes)) × (next ≤ length (now lengths)) ⌝ }
-    ensures { λ r. ⌜ r ≡ (standardKey counts (part (now (bytes .entry)) at end) || anySame (part (now (bytes .entry)) at end) (audioKeys (drop end (now (bytes .entry))) (drop next (now (lengths .entry))))) ⌝ }
+    ensures { λ r. ⌜ r ≡ (standardKey counts (part (now (bytes .entry)) at end)
+        || anySame (part (now (bytes .entry)) at end)
+        (audioKeys (drop end (now (bytes .entry))) (drop next (now (lengths .entry))))) ⌝ }
 {
     let key = &bytes[at..end];
     if is_standard(counts, fixed, key) {
@@ -701,7 +709,8 @@ fn one_if(n: usize) -> usize
 
 // How many entries there would be.
 fn standard_count(counts: Counts, audio: usize) -> usize
-    requires { ⌜ (counts .envelopes ≤ mostSources) × (counts .lfos ≤ mostSources) × (counts .macros ≤ mostSources) × (counts .«sequence_values» ≤ mostSources) × (audio ≤ mostSources) ⌝ }
+    requires { ⌜ (counts .envelopes ≤ mostSources) × (counts .lfos ≤ mostSources) × (counts .macros ≤ mostSources)
+        × (counts .«sequence_values» ≤ mostSources) × (audio ≤ mostSources) ⌝ }
     ensures { λ r. ⌜ r ≡ standardCount counts audio ⌝ }
 {
     let a = 17 + counts.envelopes + 2 * counts.lfos;

@@ -1,4 +1,5 @@
--- Keys with a number in them: Rust's `format!("lfo{n}_y")` (source.rs 233-310), and which keys are such ones. Definitions only.
+-- Keys with a number in them: Rust's `format!("lfo{n}_y")` (source.rs 233-310), and which keys are such ones.
+-- Definitions only.
 use mathlib.Core.Bool.{Bool, true, false, cond, _&&_}
 use mathlib.Core.List.{List, [], _∷_, _++_}
 use Prim.Native.Nat.{ℕ, _+_, _-_, _*_}

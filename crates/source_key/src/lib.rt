@@ -1,4 +1,5 @@
-// The bytes of a key, written word by word and number by number, and read back. The definitions that contracts cite are in specs/.
+// The bytes of a key, written word by word and number by number, and read back. The definitions that contracts cite are
+// in specs/.
 ghost use mathlib.Core.Path.{_≡_};
 ghost use Prim.Native.Nat.{_+_, _≤_, _<_};
 ghost use lib.Dec.{ltb};

@@ -1,5 +1,5 @@
--- The entries that stand in the two registries (source.rs 183-200, 326-356; dest.rs 212-217, 276-299; document 01, Source entry, Destination entry). A
--- count above the most counts as the most. Definitions only.
+-- The entries that stand in the two registries (source.rs 183-200, 326-356; dest.rs 212-217, 276-299; document 01,
+-- Source entry, Destination entry). A count above the most counts as the most. Definitions only.
 use mathlib.Core.Bool.{Bool, true, false, cond, _&&_}
 use mathlib.Core.List.{List, [], _∷_}
 use Prim.Native.Nat.{ℕ, zero, suc, min}

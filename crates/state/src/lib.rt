@@ -1,4 +1,5 @@
-// The records that several crates read: registries, slots and the compiled program; docs/CALLS.md says what each field means.
+// The records that several crates read: registries, slots and the compiled program; docs/CALLS.md says what each field
+// means.
 ghost use mathlib.Core.Path.{_≡_};
 ghost use Rattle.state.specs.Registry.{sameTarget};
 use config::Config;
@@ -332,7 +333,8 @@ pub struct Chunk {
     pub tick: bool,
 }
 
-// The last nonempty block: its range, the phase at its start, and whether its first chunk ticks whatever the phase. `start` = `end` where it had no routes.
+// The last nonempty block: its range, the phase at its start, and whether its first chunk ticks whatever the phase.
+// `start` = `end` where it had no routes.
 pub struct Block {
     pub start: usize,
     pub end: usize,

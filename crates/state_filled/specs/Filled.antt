@@ -1,4 +1,5 @@
--- Lists of at most as many things as there are slots, as arrays that are filled from their start hold them. Definitions only.
+-- Lists of at most as many things as there are slots, as arrays that are filled from their start hold them. Definitions
+-- only.
 use mathlib.Core.Bool.{cond, false}
 use mathlib.Core.List.{List}
 use Prim.Native.Nat.{ℕ, _+_}
@@ -42,10 +43,12 @@ abbrev pub noUsed : Used
 noUsed = record { dest = 0; voice = false; audio = false; feed = B.Set }
 
 abbrev pub noReader : Reader
-noReader = record { candidate = noCandidate; source = E.Nothing; aux = E.Nothing; amount = E.Nothing; output = E.Nothing }
+noReader =
+    record { candidate = noCandidate; source = E.Nothing; aux = E.Nothing; amount = E.Nothing; output = E.Nothing }
 
 abbrev pub noPlan : Plan
-noPlan = record { dest = 0; voice = false; audio = false; min = zero32; max = zero32; base = B.Set; first = 0; count = 0 }
+noPlan =
+    record { dest = 0; voice = false; audio = false; min = zero32; max = zero32; base = B.Set; first = 0; count = 0 }
 
 abbrev pub noInput : Input
 noInput = record { read = D.Constant; bipolar = false; table = false; slew = L.Free }

@@ -1,7 +1,9 @@
-// The entries that stand in the two registries, read whatever number is asked for. The definitions are in state's specs/Registry.
+// The entries that stand in the two registries, read whatever number is asked for. The definitions are in state's
+// specs/Registry.
 ghost use mathlib.Core.Path.{_≡_};
 ghost use lib.Ieee.{nan};
-ghost use Rattle.state.specs.Registry.{sourceCount, knownSource, sourceAt, noSource, destCount, destAt, noDest, destPlace};
+ghost use Rattle.state.specs.Registry.{sourceCount, knownSource, sourceAt, noSource, destCount, destAt, noDest};
+ghost use Rattle.state.specs.Registry.{destPlace};
 use config::DESTINATIONS;
 use config::SOURCES;
 use state::Dest;

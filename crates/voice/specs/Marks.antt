@@ -1,5 +1,5 @@
--- Marks of voices: fresh lanes start at their new values, renoted ones take new random numbers (document 01, Chunk and value).
--- Beside them stand the two any-marks, which outlive the voice that set them (case 10). Definitions only.
+-- Marks of voices: fresh lanes start at their new values, renoted ones take new random numbers (document 01, Chunk and
+-- value). Beside them stand the two any-marks, which outlive the voice that set them (case 10). Definitions only.
 use mathlib.Core.Path.{_≡_}
 use mathlib.Core.Bool.{Bool, true, false, cond, not, _||_}
 use mathlib.Core.List.{List, [], _∷_}
@@ -17,7 +17,13 @@ anyOf (b ∷ bs) = b || anyOf bs
 
 -- engine.rs 292-295
 unfoldable pub noMarks : Marks
-noMarks = record { fresh = replicate mostVoices false; «any_fresh» = false; renoted = replicate mostVoices false; «any_renoted» = false }
+noMarks =
+    record {
+      fresh = replicate mostVoices false;
+      «any_fresh» = false;
+      renoted = replicate mostVoices false;
+      «any_renoted» = false;
+    }
 
 -- a note on v renotes it, and makes it fresh unless the note is legato (engine.rs 460-465)
 unfoldable pub marksOn : Marks → ℕ → Bool → Marks
@@ -59,8 +65,8 @@ marksCleared m = noMarks
 
 -- ---- what the calls keep
 
--- a voice is marked only while the any-mark is set. So it is the same whether a block clears the marks always or, as the Rust, where the any-mark is
--- set (proofs/Covered.antt)
+-- a voice is marked only while the any-mark is set. So it is the same whether a block clears the marks always or, as
+-- the Rust, where the any-mark is set (proofs/Covered.antt)
 pub record Covered (m : Marks) : Type 0 where
   pub fresh-long : length (m .fresh) ≡ mostVoices
   pub renoted-long : length (m .renoted) ≡ mostVoices

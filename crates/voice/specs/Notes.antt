@@ -1,5 +1,6 @@
--- The values that a note curve gave the voices, one a voice, and how they glide (engine.rs 193-200, 466-473, 509-514, 701-754). Definitions only.
--- A note value is apart from the held numbers of its sources, which change only where a value is set at once or glides (`setLane`, `movedLane`).
+-- The values that a note curve gave the voices, one a voice, and how they glide (engine.rs 193-200, 466-473, 509-514,
+-- 701-754). Definitions only. A note value is apart from the held numbers of its sources, which change only where a
+-- value is set at once or glides (`setLane`, `movedLane`).
 use mathlib.Core.Bool.{Bool, false, cond, not, _&&_, _||_}
 use mathlib.Core.List.{List, [], _∷_}
 use Prim.Native.Nat.{ℕ}
@@ -29,7 +30,8 @@ abbrev pub glidesTo : Float → Float → Legato → Bool
 glidesTo x target L.NoGlide = false
 glidesTo x target (L.Glide seconds) = ne target x
 
--- the step per sample: the whole way over the seconds' samples. 0 where that product overflows, infinite where it is 0 (engine.rs 707-708)
+-- the step per sample: the whole way over the seconds' samples. 0 where that product overflows, infinite where it is 0
+-- (engine.rs 707-708)
 abbrev pub stepOf : Float → Float → Legato → Float → Float
 stepOf x target L.NoGlide rate = zero32
 stepOf x target (L.Glide seconds) rate = over (absOf (less target x)) (times seconds rate)
@@ -61,8 +63,8 @@ movedValue frames x g = cond (moving g) (moved x g (times (g .step) frames)) x
 unfoldable pub movedGlide : Float → Float → Glide → Glide
 movedGlide frames x g = cond (moving g && arrives x g (times (g .step) frames)) (stopped g) g
 
--- the number in the voice's lane of a source that holds the value: it becomes the value where it is set at once, and where a glide moved. `g` is the
--- glide before the frames passed, `x` the value after (engine.rs 718-719, 751)
+-- the number in the voice's lane of a source that holds the value: it becomes the value where it is set at once, and
+-- where a glide moved. `g` is the glide before the frames passed, `x` the value after (engine.rs 718-719, 751)
 unfoldable pub setLane : Float → Float → Legato → Float → Float
 setLane x target legato lane = cond (glidesTo x target legato) lane target
 
@@ -106,7 +108,8 @@ setNote s v target legato rate =
 
 -- v has ended: its glide ends, and the value stays where it is (engine.rs 509-514)
 unfoldable pub endedNote : Notes → ℕ → Notes
-endedNote s v = cond (ltb v mostVoices) (record { value = s .value; glide = set (s .glide) v (stopped (glideOf s v)) }) s
+endedNote s v =
+    cond (ltb v mostVoices) (record { value = s .value; glide = set (s .glide) v (stopped (glideOf s v)) }) s
 
 -- so many frames pass (engine.rs 733-754)
 unfoldable pub advanced : Notes → ℕ → Notes

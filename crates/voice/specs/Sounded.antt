@@ -1,5 +1,5 @@
--- What ranks say: in which order the voices sounded last, as the Rust's numbers have it (engine.rs 457-458, 515-519). Definitions only;
--- proofs/Ranks.antt, Since.antt, Right.antt and After.antt have the theorems.
+-- What ranks say: in which order the voices sounded last, as the Rust's numbers have it (engine.rs 457-458, 515-519).
+-- Definitions only; proofs/Ranks.antt, Since.antt, Right.antt and After.antt have the theorems.
 use mathlib.Core.Path.{_≡_}
 use mathlib.Core.Bool.{Bool, true, false, cond}
 use mathlib.Core.Logic.{_⊎_}
@@ -15,7 +15,8 @@ use Rattle.voice.specs.Voices.{rankOf, noVoices, ranksOn, soundedOn, rel
 
 -- ---- the Rust's numbers. Lists have the latest note-on first
 
--- the number of a voice's last note-on: they are counted from 1, and a voice that has not sounded has 0 (engine.rs 296-297, 457-458)
+-- the number of a voice's last note-on: they are counted from 1, and a voice that has not sounded has 0 (engine.rs
+-- 296-297, 457-458)
 abbrev pub stamp : List ℕ → ℕ → ℕ
 stamp [] a = 0
 stamp (v ∷ earlier) a = cond (eqb a v) (length earlier + 1) (stamp earlier a)
@@ -58,7 +59,8 @@ pub record Ranks (rank : List ℕ) : Type 0 where
 -- of the first n voices the active one of the lowest rank, or nobody where none is active
 pub data Latest (active : List Bool) (rank : List ℕ) (n : ℕ) : Newest → Type 0 where
   none : ((u : ℕ) → u < n → getD active u false ≡ false) → Latest active rank n Nobody
-  one : {w : ℕ} → w < n → getD active w false ≡ true → ((u : ℕ) → u < n → getD active u false ≡ true → rankOf rank w ≤ rankOf rank u)
+  one : {w : ℕ} → w < n → getD active w false ≡ true
+      → ((u : ℕ) → u < n → getD active u false ≡ true → rankOf rank w ≤ rankOf rank u)
       → Latest active rank n (Voice w)
 
 -- ---- calls

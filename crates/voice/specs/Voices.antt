@@ -1,6 +1,7 @@
--- Which voices sound, and in which order they sounded last (engine.rs 291-298, 456-459, 501-519). Definitions only.
--- The Rust gives each voice the number of its last note-on, counted from the engine's start. Here a voice has a rank, the number of voices that
--- sounded since: such ranks never run out, and order the voices as the Rust's numbers do (proofs/Ranks.antt).
+-- Which voices sound, and in which order they sounded last (engine.rs 291-298, 456-459, 501-519). Definitions only. The
+-- Rust gives each voice the number of its last note-on, counted from the engine's start. Here a voice has a rank, the
+-- number of voices that sounded since: such ranks never run out, and order the voices as the Rust's numbers do
+-- (proofs/Ranks.antt).
 use mathlib.Core.Bool.{Bool, true, false, cond}
 use mathlib.Core.List.{List, [], _∷_, map}
 use Prim.Native.Nat.{ℕ, zero, suc, _+_}
@@ -57,7 +58,8 @@ later rank v (Voice w) = cond (ltb (rankOf rank v) (rankOf rank w)) (Voice v) (V
 -- of the first n voices the active one of the lowest rank, or nobody
 abbrev pub latest : List Bool → List ℕ → ℕ → Newest
 latest active rank zero = Nobody
-latest active rank (suc n) = let before = latest active rank n in cond (getD active n false) (later rank n before) before
+latest active rank (suc n) =
+    let before = latest active rank n in cond (getD active n false) (later rank n before) before
 
 abbrev pub isVoice : Newest → ℕ → Bool
 isVoice Nobody v = false

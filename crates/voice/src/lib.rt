@@ -1,5 +1,5 @@
-// What notes do to the voices, to their marks and to their note values (engine.rs 450-520, 701-754). The definitions that contracts cite are in specs/.
-// Every call is total: a voice not below VOICES changes nothing.
+// What notes do to the voices, to their marks and to their note values (engine.rs 450-520, 701-754). The definitions
+// that contracts cite are in specs/. Every call is total: a voice not below VOICES changes nothing.
 ghost use mathlib.Core.Path.{_≡_};
 ghost use mathlib.Core.Bool.{true, _||_, cond};
 ghost use mathlib.Core.List.{map};
@@ -8,8 +8,11 @@ ghost use lib.ListN.{take};
 ghost use Rattle.config.specs.Sizes.{mostVoices};
 ghost use Rattle.voice.specs.Joined.{joined};
 ghost use Rattle.voice.specs.Marks.{anyOf, noMarks, marksOn, marksEnded, marksSwapped, marksCleared};
-ghost use Rattle.voice.specs.Notes.{stopped, noNotes, legatoTime, stepOf, glidesTo, setGlide, setValue, setNote, endedNote, moving, arrives, moved, movedValue, movedGlide, setLane, movedLane, anyMoving, advanced, gliding};
-ghost use Rattle.voice.specs.Voices.{upFrom, raised, rankOf, isVoice, later, latest, newestAfter, noVoices, soundedOn, releasedOf, endedOf, isSounding, countOn, activeCount};
+ghost use Rattle.voice.specs.Notes.{stopped, noNotes, legatoTime, stepOf, glidesTo, setGlide, setValue, setNote};
+ghost use Rattle.voice.specs.Notes.{endedNote, moving, arrives, moved, movedValue, movedGlide, setLane};
+ghost use Rattle.voice.specs.Notes.{movedLane, anyMoving, advanced, gliding};
+ghost use Rattle.voice.specs.Voices.{upFrom, raised, rankOf, isVoice, later, latest, newestAfter, noVoices};
+ghost use Rattle.voice.specs.Voices.{soundedOn, releasedOf, endedOf, isSounding, countOn, activeCount};
 use config::VOICES;
 
 // ---- voices
@@ -233,7 +236,8 @@ impl Voices {
 
 // ---- marks
 
-// Which voices start at their new values (fresh) and take new random numbers (renoted), and whether any was marked since the last block.
+// Which voices start at their new values (fresh) and take new random numbers (renoted), and whether any was marked
+// since the last block.
 pub struct Marks {
     pub fresh: [bool; VOICES],
     pub any_fresh: bool,
