@@ -20,7 +20,7 @@ use Rattle.model.specs.Counts.{strideOf, chunksMost, frameCount, controlTotal, 
 use Rattle.model.specs.Env.{Env, Rows, Own}
 use Rattle.model.specs.Layout.{planWidth, audioRow}
 use Rattle.model.specs.Mix.{Mix, planMix}
-use Rattle.model.specs.Tick.{widthOf, fillFrom, lanesFrom, rowsOf, ownOf, putSlews, slewAfter}
+use Rattle.model.specs.Tick.{mixWidth, fillFrom, lanesFrom, rowsOf, ownOf, putSlews, slewAfter}
 use Rattle.model.proofs.FillFrom.{fill-same}
 use Rattle.lane_input.specs.Reads.{planRows}
 use Rattle.lane.specs.View.{ownRows}
@@ -66,7 +66,7 @@ module _ (st : State) (d : ℕ) (w : Job) (o : Of st d w) where
 
   module _ (h g a b i : List Float) where
     -- the row put, and the slews
-    frame-put : (t : Env) (start n : ℕ) (v u v′ u′ row : List Float) → laneCount w ≡ widthOf t (planMix st d) → n ≡ laneCount w
+    frame-put : (t : Env) (start n : ℕ) (v u v′ u′ row : List Float) → laneCount w ≡ mixWidth t (planMix st d) → n ≡ laneCount w
         → v′ ≡ putSlews st d (slewAfter t (planMix st d) (rows v) (owns v)) (planMix st d .count) v
         → u′ ≡ fillFrom u start (at row) n
         → IsRow (laneCount w) (newAudio t (planMix st d) (rows v) (owns v) (lanesFrom u start)) row
@@ -81,7 +81,7 @@ module _ (st : State) (d : ℕ) (w : Job) (o : Of st d w) where
         ∙ ap (fillFrom u start (at row)) many
         ∙ fill-same u start (at row) (new (rows v) (owns v)) (laneCount w) r
         ∙ ap (fillFrom u start (new (rows v) (owns v))) width
-        ∙ ap₂ (λ (f : Rows) (s : Own). fillFrom u start (new f s) (widthOf t x)) (rows-are v) (owns-are v))
+        ∙ ap₂ (λ (f : Rows) (s : Own). fillFrom u start (new f s) (mixWidth t x)) (rows-are v) (owns-are v))
 
     -- THE FRAME, by what its parts say
     pub frame-done : (start n : ℕ) (v u v′ u′ old row new : List Float) → n ≡ laneCount w → IsRow n (lanesFrom u start) old

@@ -21,7 +21,7 @@ use Rattle.model.specs.Env.{Env, Rows, Own}
 use Rattle.model.specs.Layout.{planWidth}
 use Rattle.model.specs.Mix.{Mix, planMix}
 use Rattle.model.specs.Sums.{audioSum}
-use Rattle.model.specs.Tick.{widthOf, fillFrom, lanesFrom, rowsOf, ownOf}
+use Rattle.model.specs.Tick.{mixWidth, fillFrom, lanesFrom, rowsOf, ownOf}
 use Rattle.model.proofs.FillFrom.{fill-length, fill-same}
 use Rattle.lane_input.proofs.Numbers.{product-bound}
 use Rattle.plan_sweep.specs.declared.Pass.{Pass}
@@ -69,7 +69,7 @@ lane-part m ys a e i l h b =
 abbrev pub withPart : List Float → ℕ → ℕ → Sounds → Sounds
 withPart m a e s = sounds (s .values) (onPart m a e (s .audio))
 
-frame-part : (st : State) (t : Env) (d : ℕ) (m : List Float) (a e i : ℕ) (s : Sounds) → Room m a e (s .audio) → i + widthOf t (planMix st d) ≤ e - a
+frame-part : (st : State) (t : Env) (d : ℕ) (m : List Float) (a e i : ℕ) (s : Sounds) → Room m a e (s .audio) → i + mixWidth t (planMix st d) ≤ e - a
     → rowFrame st t d (a + i) (withPart m a e s) ≡ withPart m a e (rowFrame st t d i s)
 unfolding rowFrame
 frame-part st t d m a e i s h b =
@@ -79,9 +79,9 @@ frame-part st t d m a e i s h b =
     let ys : List Float = s .audio in
     let old : ℕ → Float = lanesFrom (onPart m a e ys) (a + i) in
     ap (sounds (rowFrame st t d i s .values))
-    (fill-part m ys a e i (newAudio t x f own old) (widthOf t x) h b
+    (fill-part m ys a e i (newAudio t x f own old) (mixWidth t x) h b
     ∙ ap (onPart m a e)
-    (fill-same ys i (newAudio t x f own old) (newAudio t x f own (lanesFrom ys i)) (widthOf t x) (λ l k. new-old t x f own old (lanesFrom ys i) l (lane-part m ys a e i l h (omega arith)))))
+    (fill-same ys i (newAudio t x f own old) (newAudio t x f own (lanesFrom ys i)) (mixWidth t x) (λ l k. new-old t x f own old (lanesFrom ys i) l (lane-part m ys a e i l h (omega arith)))))
 
 -- ---- the rows of a chunk
 
@@ -103,7 +103,7 @@ frames-part st t c d a e (suc n) v m w p q b =
     let done : Sounds = rowFrames st t c d 0 n (sounds v (part m a e)) in
     let step : n < suc n = omega arith in
     let more : k + widthAt st d ≤ e - a = omega (arith, row-inside (widthAt st d) step) in
-    let wide : widthOf (at-n t c n) (planMix st d) ≡ widthAt st d = ap (λ (s : ℕ). planWidth s (planAt st d .voice)) w in
+    let wide : mixWidth (at-n t c n) (planMix st d) ≡ widthAt st d = ap (λ (s : ℕ). planWidth s (planAt st d .voice)) w in
     let room : Room m a e (done .audio) =
     record { start = p; end = q; as-long = frames-long st t c d 0 n (sounds v (part m a e)) ∙ part-length m a e q } in
     ap (λ (z : ℕ). withPart m a e (rowFrame st (at-n t c n) d z done)) (zero-add k)

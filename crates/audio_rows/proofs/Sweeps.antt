@@ -24,7 +24,7 @@ use Rattle.model.specs.Lanes.{inSpan}
 use Rattle.model.specs.Mix.{Mix, planMix}
 use Rattle.model.specs.RouteValue.{rawIn, plain}
 use Rattle.model.specs.Sums.{baseIn, offsets, scaledGain, plains}
-use Rattle.model.specs.Tick.{widthOf, fillFrom, lanesFrom, rowsOf, ownOf}
+use Rattle.model.specs.Tick.{mixWidth, fillFrom, lanesFrom, rowsOf, ownOf}
 use Rattle.plan_sum.specs.Job.{slotGain, baseBy}
 use Rattle.plan_sweep.specs.declared.Field.{Field}
 use Rattle.plan_sweep.specs.declared.Pass.{Pass}
@@ -150,7 +150,7 @@ module _ (st : State) (w : Work) (e : Installed st w) (h g a b xs : List Float) 
       ∙ ap (λ (k : Bool). cond k (heldTo (planAt st d) sum) (old l)) (z .field .span (y .on) (env n) refl refl l b)
       ∙ ap (λ (k : Float). cond (leb (q .from) l && ltb l (q .from + q .groups * lanes)) k (old l)) (ap₂ heldTo plan-is (plains-is n m f u l b))
 
-  width-is : (n : ℕ) → widthOf (env n) mix ≡ w .scene .stride
+  width-is : (n : ℕ) → mixWidth (env n) mix ≡ w .scene .stride
   width-is n = ap (λ (k : Bool). planWidth (w .scene .stride) k) voice-is
 
   wide-is : q .stride ≡ widthAt st d

@@ -13,7 +13,7 @@ use Rattle.model.specs.Env.{Env}
 use Rattle.model.specs.Layout.{planWidth}
 use Rattle.model.specs.Mix.{planMix}
 use Rattle.model.specs.Slews.{sourceAfter, auxAfter}
-use Rattle.model.specs.Tick.{widthOf, fillFrom, lanesFrom, rowsOf, ownOf, putSlews, slewAfter}
+use Rattle.model.specs.Tick.{mixWidth, fillFrom, lanesFrom, rowsOf, ownOf, putSlews, slewAfter}
 use Rattle.model.specs.Audio.{Sounds, newAudio, atFrame}
 use Rattle.lane_input.specs.declared.Scene.{Scene}
 use Rattle.lane_input.specs.Scene.{envOf}
@@ -76,7 +76,7 @@ rowFrame st t d a m =
     let s = ownOf st (m .values) d in
     record {
       values = putSlews st d (slewAfter t x f s) (planAt st d .count) (m .values);
-      audio = fillFrom (m .audio) a (newAudio t x f s (lanesFrom (m .audio) a)) (widthOf t x);
+      audio = fillFrom (m .audio) a (newAudio t x f s (lanesFrom (m .audio) a)) (mixWidth t x);
     }
 
 -- the first n frames of the chunk, of plan d, whose rows start at a

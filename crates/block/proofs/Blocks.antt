@@ -20,7 +20,7 @@ use Rattle.model.specs.Counts.{voiceCount, frameCount, strideOf, chunksMost, en
 use Rattle.model.specs.World.{World, worldOf}
 use Rattle.model.specs.States.{withMarks, withDraw, withPhase, withBlock, putState, putGlobals, putValues}
 use Rattle.model.specs.Chunks.{chunkTotal, chunkOf}
-use Rattle.model.specs.Process.{Drawn, valuesOf, loaded, drawn, putDrawn, glided, chunkStep, chunkSteps, closed, blockOf, noBlock, run}
+use Rattle.model.specs.Process.{Drawn, valuesOf, loaded, drawn, putDrawn, glided, chunkStep, chunkSteps, closed, blockOf, noBlock, overRange}
 use Rattle.model.specs.Need.{valuesRows}
 use Rattle.block_chunks.proofs.Chunks.{inside}
 use Rattle.block_opening.specs.declared.Lengths.{Lengths}
@@ -143,7 +143,7 @@ module _ (samples : List Float) (signals : Signals) (start end : ℕ) (w : World
       let no : eqb (routeTotal (w .state .program)) 0 ≡ false = ne-eqb (routeTotal (w .state .program)) 0 (λ z. e (omega arith)) in
       f ∙ rw no
 
-  pub run-is : runWorld samples signals start end w ≡ run samples signals start end w
+  pub run-is : runWorld samples signals start end w ≡ overRange samples signals start end w
   unfolding runWorld routelessWorld routedWorld steppedWorld closedWorld drawnWorld loadedWorld
   run-is = refl
 

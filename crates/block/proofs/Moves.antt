@@ -16,7 +16,7 @@ use Rattle.model.specs.Audio.{audioOf}
 use Rattle.model.specs.Chunks.{chunkTotal, chunkOf}
 use Rattle.model.specs.Counts.{voiceCount, frameCount, strideOf, engineSources, controlTotal}
 use Rattle.model.specs.Env.{Env}
-use Rattle.model.specs.Process.{rowsOfChunk, glided, ticked, rowed, sounded, snapOf, chunkStep, chunkSteps}
+use Rattle.model.specs.Process.{rowsOfChunk, glided, ticked, rowed, sounded, snapAt, chunkStep, chunkSteps}
 use Rattle.model.specs.States.{withVelocity, withKey, withPrimed, putValues}
 use Rattle.model.specs.Tick.{turns, tickOf}
 use Rattle.model.specs.World.{World, worldOf, isVelocity, isKey}
@@ -162,7 +162,7 @@ module _ (st : State) (m : Moving) (c : Chunk) (signals : Signals) (samples h g 
       → worldOf (movedBy st r) k g a v y t ≡ chunkStep samples signals i c (worldOf (movedBy st m) h g a v x t)
   only-step i b z r gl y k e p f l q j =
       let w : World = worldOf (movedBy st m) h g a v x t in
-      let snap : Bool = snapOf i w in
+      let snap : Bool = snapAt i w in
       let held : k ≡ heldIn gl m (movedIn m c) h = j ∙ ap (λ (n : Moving). heldIn gl m n h) q in
       let last : worldOf (movedBy st r) k g a v y t ≡ worldOf (movedBy st (movedIn m c)) k g a v y t = ap (λ (n : Moving). worldOf (movedBy st n) k g a v y t) q in
       step-is samples signals i c snap w (worldOf (movedBy st primed) h g a v x t) (worldOf (movedBy st primed) h g a v x t) (worldOf (movedBy st primed) h g a v y t)

@@ -24,7 +24,7 @@ use Rattle.number.specs.Number.{zero32, nearest32}
 use Rattle.model.specs.Layout.{planSize}
 use Rattle.model.specs.Tick.{offPhase, tickOf}
 use Rattle.model.specs.Audio.{Sounds, audioOf}
-use Rattle.model.specs.Process.{valuesOf, envOf, glided, ticked, rowed, putSounds, sounded, snapOf, afterTick, chunkStep, closed}
+use Rattle.model.specs.Process.{valuesOf, envOf, glided, ticked, rowed, putSounds, sounded, snapAt, afterTick, chunkStep, closed}
 use Rattle.lane_input.specs.declared.Scene.{Scene}
 use Rattle.lane_input.specs.Scene.{envOf as sceneEnv}
 use Rattle.plan_sum.specs.Job.{IsScene}
@@ -169,7 +169,7 @@ pub snap-first : (i : ℕ) (b : Bool) → i ≡ 0 → b ≡ (eqb i 0 && b)
 snap-first i b e = rw e
 
 -- of worlds, one after the other
-pub step-is : (samples : List Float) (signals : Signals) (i : ℕ) (c : Chunk) (snap : Bool) (w x y z o : World) → snap ≡ snapOf i w
+pub step-is : (samples : List Float) (signals : Signals) (i : ℕ) (c : Chunk) (snap : Bool) (w x y z o : World) → snap ≡ snapAt i w
     → x ≡ ticked samples signals c snap w → y ≡ rowed i x → z ≡ sounded samples signals c snap y → o ≡ glided (c .len) z
     → o ≡ chunkStep samples signals i c w
 unfolding chunkStep

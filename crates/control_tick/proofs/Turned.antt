@@ -17,7 +17,7 @@ use Rattle.model.specs.Env.{Env, Rows, Own}
 use Rattle.model.specs.Layout.{planSize, planFrom, planTo}
 use Rattle.model.specs.Mix.{Mix, planMix}
 use Rattle.model.specs.Sums.{tickSum}
-use Rattle.model.specs.Tick.{widthOf, heldSum, newTo, newFrom, fillFrom, lanesFrom, fromStart, toStart, rowsOf, ownOf, putSlews, slewAfter, turn, turns, tickOf}
+use Rattle.model.specs.Tick.{mixWidth, heldSum, newTo, newFrom, fillFrom, lanesFrom, fromStart, toStart, rowsOf, ownOf, putSlews, slewAfter, turn, turns, tickOf}
 use Rattle.model.proofs.FillFrom.{fill-same}
 use Rattle.model.proofs.ProgramLayout.{stride-least}
 use Rattle.lane_input.specs.declared.Scene.{Scene}
@@ -98,7 +98,7 @@ module _ (st : State) (t : Env) (d : ℕ) (w : Job) (m h g a b i : List Float) (
       putSlews st d (slewAfter t (planMix st d) f s) (planAt st d .count)
       (fillFrom (fillFrom m from (newFrom t phase (planMix st d) f s (lanesFrom m to) (lanesFrom m from)) n) to (newTo t phase (planMix st d) f s (lanesFrom m to)) n)
 
-  turn-is : (phase : ℕ) → turn st t phase d m ≡ putBy phase (widthOf t (planMix st d)) (fromStart st d) (toStart st d) (rowsOf st m) (ownOf st m d)
+  turn-is : (phase : ℕ) → turn st t phase d m ≡ putBy phase (mixWidth t (planMix st d)) (fromStart st d) (toStart st d) (rowsOf st m) (ownOf st m d)
   unfolding turn
   turn-is phase = refl
 
@@ -122,10 +122,10 @@ module _ (st : State) (t : Env) (d : ℕ) (w : Job) (m h g a b i : List Float) (
   to-is : planFrom (w .scene .stride) (w .chunks) d + w .scene .stride ≡ toStart st d
   to-is = sym (ap (λ (y : ℕ). planTo y (chunksMost st) d) (of .stride) ∙ ap (λ (y : ℕ). planTo (w .scene .stride) y d) (of .chunks))
 
-  width-is : laneCount w ≡ widthOf t (planMix st d)
+  width-is : laneCount w ≡ mixWidth t (planMix st d)
   width-is = job-width {t = t} {x = planMix st d} {w = w} (record { scene = k .scene; mix = mix-is })
 
-  narrow : widthOf t (planMix st d) ≤ strideOf st
+  narrow : mixWidth t (planMix st d) ≤ strideOf st
   narrow = rw (k .scene .stride ∙ sym (of .stride)) (width-most (strideOf st) (planAt st d .voice) (stride-least (voiceCount st)))
 
   -- THE TURN: the slews, then both rows
@@ -142,7 +142,7 @@ module _ (st : State) (t : Env) (d : ℕ) (w : Job) (m h g a b i : List Float) (
       let put = putSlews st d (slewAfter t x rowsBy ownBy) (planAt st d .count) in
       let start = newFrom t (y .phase) x rowsBy ownBy (lanesFrom m to) (lanesFrom m from) in
       let end = newTo t (y .phase) x rowsBy ownBy (lanesFrom m to) in
-      let wide : n ≡ widthOf t x = en ∙ width-is in
+      let wide : n ≡ mixWidth t x = en ∙ width-is in
       let low : from ≡ fromStart st d = ef ∙ from-is in
       let high : to ≡ toStart st d = et ∙ ap (λ (z : ℕ). z + w .scene .stride) ef ∙ to-is in
       let inside : d < planTotal (st .program) = omega (arith, of .plans) in

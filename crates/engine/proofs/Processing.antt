@@ -11,7 +11,7 @@ use Rattle.refusal.specs.Judge.{judged}
 use Rattle.state.specs.declared.Signals.{Signals}
 use Rattle.state.specs.declared.State.{State}
 use Rattle.model.specs.World.{World, worldOf}
-use Rattle.model.specs.Process.{Processed, processRows, run, process}
+use Rattle.model.specs.Process.{Processed, processRows, overRange, process}
 use Rattle.block_opening.specs.Codes.{countsOf, lengthsOf, codeBy}
 use Rattle.block_opening.proofs.Codes.{code-of-block}
 use Rattle.block.specs.Worlds.{runWorld}
@@ -39,7 +39,7 @@ module _ (st : State) (h g a v b t samples : List Float) (signals : Signals) (st
     call = process (worldOf st h g a v b t) samples signals start end
 
     abbrev by : ℕ → Bool → Processed
-    by k some = record { code = k; world = cond (eqb k 0 && some) (run samples signals start end before) before }
+    by k some = record { code = k; world = cond (eqb k 0 && some) (overRange samples signals start end before) before }
 
     by-is : (k : ℕ) → k ≡ code → by k (ltb start end) ≡ call
     unfolding process

@@ -22,7 +22,7 @@ use Rattle.state.specs.declared.Ramped.the-variants as M
 use Rattle.state.specs.declared.State.{State}
 use Rattle.model.specs.Counts.{frameCount}
 use Rattle.model.specs.Chunks.{chunkTotal, chunkOf}
-use Rattle.model.specs.Outputs.{valuesShort, audioShort, widthOf, isAudioPlan, isControlPlan, shapeOf, readBy}
+use Rattle.model.specs.Outputs.{valuesShort, audioShort, widthOf, isAudioPlan, isControlPlan, shapeOf, readingBy}
 use Rattle.model.specs.Outputs.{audioNumber, toNumber}
 use Rattle.model.specs.Outputs.{hasLatest, latestNumber, rampLength, ramped, RampWritten, chunkAt, outputOf, audioAt}
 use Rattle.model.specs.Outputs.{controlValue, latestOf, rampOf}
@@ -41,7 +41,7 @@ reading-if true x = refl
 reading-if false x = refl
 
 -- a number by its rows
-read-says : (rows : List Row) (b : Bool) (x : Float) → readingReply (readBy rows b x) ≡ byRows rows (only b x)
+read-says : (rows : List Row) (b : Bool) (x : Float) → readingReply (readingBy rows b x) ≡ byRows rows (only b x)
 unfolding byRows
 read-says rows b x = go (judged rows)
   where

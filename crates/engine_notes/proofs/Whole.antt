@@ -15,7 +15,7 @@ use Rattle.state.specs.declared.State.{State}
 use Rattle.model.specs.Counts.{engineSources}
 use Rattle.model.specs.World.{World, markAt, heldPlace, heldBy, isVelocity, isKey, isRelease, isRandom}
 use Rattle.model.specs.States.{withVoices, withMarks, withVelocity, withKey, withAlternate, withDraw, putState, putHeld}
-use Rattle.model.specs.NoteCalls.{Note, keyTarget, begun, velocitySet, keySet, randomsSet, alternates, alternated, releasedTo, notedOn}
+use Rattle.model.specs.NoteCalls.{Note, keyTarget, noteBegun, velocitySet, keySet, randomsSet, alternates, alternated, releasedTo, notedOn}
 use Rattle.engine_notes.specs.Parts.{laneIn, soundingOf, stateWith, settingOf}
 use Rattle.engine_notes.specs.Noting.{noteKind, heldIn, drawsIn, randomsIn, alternatesIn, valueIn, notesWith, soundOn, heldOn}
 use Rattle.engine_notes.proofs.KindNumbers.{velocity-kind, key-kind, release-kind, random-kind, alternate-kind}
@@ -125,7 +125,7 @@ module _ (v : ℕ) (n : Note) (w : World) where
   unfolding soundOn heldOn withVoices withMarks withVelocity withKey withAlternate withDraw putState putHeld
   noted-is =
       let k = engineSources (w .state) in
-      let b = begun v n w in
+      let b = noteBegun v n w in
       let x = velocityWorld v b n in
       let y = keyWorld v x n in
       let z = randomsWorld v y k in

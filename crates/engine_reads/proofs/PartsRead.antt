@@ -10,7 +10,7 @@ use Rattle.list.specs.Part.{part}
 use Rattle.state.specs.declared.State.{State}
 use Rattle.model.specs.Counts.{frameCount}
 use Rattle.model.specs.Chunks.{chunkTotal}
-use Rattle.model.specs.Outputs.{Parted, valuesShort, audioShort, isAudioPlan, isControlPlan, audioPart, framePart, fromPart, toPart, widthOf, audioStart, fromStart, toStart}
+use Rattle.model.specs.Outputs.{Parted, valuesShort, audioShort, isAudioPlan, isControlPlan, audioPart, framePart, fromPart, toPart, widthOf, audioStart, fromPlace, toPlace}
 use Rattle.engine_reads.specs.Spot.{spotOf}
 use Rattle.engine_reads.specs.declared.Spot.{Spot}
 use Rattle.engine_reads.proofs.Spots.{audio-is, control-is, width-is, rows-start-is, from-start-is, to-start-is}
@@ -103,11 +103,11 @@ module _ (st : State) (m : List Float) (d : ℕ) where
       pub from-part-is : fromPart st m d ≡ parted 0 (part m (s .from) (s .from + n * s .width))
       unfolding fromPart judged
       from-part-is =
-          let whole : fromPart st m d ≡ parted 0 (part m (fromStart st d 0) (fromStart st d 0 + chunkTotal (st .block) * widthOf st d)) = simp (h, is-control) in
+          let whole : fromPart st m d ≡ parted 0 (part m (fromPlace st d 0) (fromPlace st d 0 + chunkTotal (st .block) * widthOf st d)) = simp (h, is-control) in
           whole ∙ sym (ap (parted 0) (same-part m (from-start-is st d s e) long))
 
       pub to-part-is : toPart st m d ≡ parted 0 (part m (s .to) (s .to + n * s .width))
       unfolding toPart judged
       to-part-is =
-          let whole : toPart st m d ≡ parted 0 (part m (toStart st d 0) (toStart st d 0 + chunkTotal (st .block) * widthOf st d)) = simp (h, is-control) in
+          let whole : toPart st m d ≡ parted 0 (part m (toPlace st d 0) (toPlace st d 0 + chunkTotal (st .block) * widthOf st d)) = simp (h, is-control) in
           whole ∙ sym (ap (parted 0) (same-part m (to-start-is st d s e) long))

@@ -23,7 +23,7 @@ use Rattle.block_chunks.proofs.Chunks.{total-nonempty}
 use Rattle.model.specs.Chunks.{chunkTotal, chunkStart, chunkPhase, chunkOf, chunkList}
 use Rattle.model.specs.Counts.{voiceCount, at}
 use Rattle.model.specs.NoteCalls.{voiceRow}
-use Rattle.model.specs.Outputs.{valuesShort, isControlPlan, fromStart, laneOf, toNumber, rampAt, rampFrom, rampChunk, rampChunks, rampLength, RampWritten, rampOf}
+use Rattle.model.specs.Outputs.{valuesShort, isControlPlan, fromPlace, laneOf, toNumber, rampAt, rampFrom, rampChunk, rampChunks, rampLength, RampWritten, rampOf}
 use Rattle.engine_reads.specs.Spot.{spotOf}
 use Rattle.engine_reads.specs.Ramp.{rampNumber}
 use Rattle.engine_reads.specs.declared.Spot.{Spot}
@@ -107,7 +107,7 @@ module _ (st : State) (m : List Float) (d v : ℕ) (s : Spot) (q : s ≡ spotOf 
   frameNumber k = rampNumber m s v (b .phase % 32 + k)
 
   frame-number : (i k : ℕ) → chunkPhase b i + k < 32
-      → frameNumber (off b i + k) ≡ rampAt (at m (fromStart st d i + laneOf st d v)) (toNumber st m d i v) (chunkPhase b i + k)
+      → frameNumber (off b i + k) ≡ rampAt (at m (fromPlace st d i + laneOf st d v)) (toNumber st m d i v) (chunkPhase b i + k)
   unfolding rampNumber
   frame-number i k h =
       let t = b .phase % 32 + (off b i + k) in
@@ -118,7 +118,7 @@ module _ (st : State) (m : List Float) (d v : ℕ) (s : Spot) (q : s ≡ spotOf 
   chunk-is : (i : ℕ) → rampChunk st m d v i (chunkOf b i) ≡ table frameNumber (off b i) (min (32 - chunkPhase b i) (frames b - off b i))
   unfolding chunkOf
   chunk-is i =
-      ramp-from-is frameNumber (at m (fromStart st d i + laneOf st d v)) (toNumber st m d i v) (chunkPhase b i) (off b i) (min (32 - chunkPhase b i) (b .end - chunkStart b i))
+      ramp-from-is frameNumber (at m (fromPlace st d i + laneOf st d v)) (toNumber st m d i v) (chunkPhase b i) (off b i) (min (32 - chunkPhase b i) (b .end - chunkStart b i))
       (λ k h. frame-number i k (omega (arith, phase-below b i)))
       ∙ ap (table frameNumber (off b i)) (len-is b i)
 

@@ -9,10 +9,10 @@ use lib.Dec.{leb}
 use lib.Ieee.{Float}
 use Rattle.refusal.specs.Judge.{Row, _when_, judged}
 use Rattle.state.specs.declared.Reading.the-variants as R
-use Rattle.model.specs.Outputs.{readBy}
+use Rattle.model.specs.Outputs.{readingBy}
 
 module _ (rows : List Row) (b : Bool) (x : Float) {code : ℕ} (e : code ≡ judged rows) where
-  pub read-refused : (code ≡ 0 → ⊥) → R.Refused code ≡ readBy rows b x
+  pub read-refused : (code ≡ 0 → ⊥) → R.Refused code ≡ readingBy rows b x
   read-refused h =
       let ne : judged rows ≡ 0 → ⊥ = λ q. h (e ∙ q) in
       rw e (simp (ne-eqb (judged rows) 0 ne))
@@ -21,10 +21,10 @@ module _ (rows : List Row) (b : Bool) (x : Float) {code : ℕ} (e : code ≡ jud
     none : judged rows ≡ 0
     none = sym e ∙ z
 
-    pub read-nothing : b ≡ false → R.Nothing ≡ readBy rows b x
+    pub read-nothing : b ≡ false → R.Nothing ≡ readingBy rows b x
     read-nothing h = simp (none, h)
 
-    pub read-value : b ≡ true → {y : Float} → y ≡ x → R.Value y ≡ readBy rows b x
+    pub read-value : b ≡ true → {y : Float} → y ≡ x → R.Value y ≡ readingBy rows b x
     read-value h q = simp (none, h, q)
 
 -- rows 2 and 14 where neither applies

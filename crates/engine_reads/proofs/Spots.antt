@@ -14,7 +14,7 @@ use Rattle.state.specs.declared.State.{State}
 use Rattle.layout.proofs.Bounds.{product-bound, stride-bound}
 use Rattle.model.specs.Counts.{frameCount, strideOf, chunksMost, planTotal, planAt, at}
 use Rattle.model.specs.Layout.{planWidth, planSize, audioSize}
-use Rattle.model.specs.Outputs.{planOf, planPlace, isAudioPlan, isControlPlan, widthOf, laneOf, audioStart, fromStart, toStart, audioNumber, toNumber}
+use Rattle.model.specs.Outputs.{planOf, planPlace, isAudioPlan, isControlPlan, widthOf, laneOf, audioStart, fromPlace, toPlace, audioNumber, toNumber}
 use Rattle.engine_reads.specs.Spot.{spotOf, mostStart, Bounded}
 use Rattle.engine_reads.specs.declared.Spot.{Spot}
 
@@ -110,11 +110,11 @@ module _ (st : State) (d : ℕ) where
     unfolding spotOf
     rows-start-is = rw e (omega arith)
 
-    pub from-start-is : s .from ≡ fromStart st d 0
+    pub from-start-is : s .from ≡ fromPlace st d 0
     unfolding spotOf
     from-start-is = rw e (omega arith)
 
-    pub to-start-is : s .to ≡ toStart st d 0
+    pub to-start-is : s .to ≡ toPlace st d 0
     unfolding spotOf
     to-start-is = rw e (omega arith)
 
@@ -127,6 +127,6 @@ module _ (st : State) (d : ℕ) where
     to-number-is m k v = rw e (ap (λ (n : ℕ). getD m n nan) (omega arith))
 
     pub from-number-is : (m : List Float) (k v : ℕ)
-        → getD m (s .from + k * s .width + cond (s .voice) v 0) nan ≡ at m (fromStart st d k + laneOf st d v)
+        → getD m (s .from + k * s .width + cond (s .voice) v 0) nan ≡ at m (fromPlace st d k + laneOf st d v)
     unfolding spotOf
     from-number-is m k v = rw e (ap (λ (n : ℕ). getD m n nan) (omega arith))

@@ -15,7 +15,7 @@ use Rattle.model.specs.Env.{Env, Rows, Own, partOf, partStride}
 use Rattle.model.specs.Input.{inputIn}
 use Rattle.model.specs.Mix.{Mix}
 use Rattle.model.specs.Routes.{freeSlew}
-use Rattle.model.specs.RouteValue.{sourceIn, auxIn, sourced, withAux, gained, routeValue, rowed}
+use Rattle.model.specs.RouteValue.{sourceIn, auxIn, sourced, withAux, gained, routeValue, wholeRow}
 use Rattle.model.specs.Slews.{movesIn, auxSlew, sourceAfter}
 use Rattle.lane_input.specs.Reads.{partFor}
 
@@ -35,12 +35,12 @@ value-of t f s j lane r {g = g} a b c = ap (λ (z : Float). times z g) (b ∙ ap
 abbrev whole : ℕ → ℕ → SignalPart → Bool
 whole stride upTo p = ltb 0 (p .len) && (leb stride (partStride p) && leb (upTo * partStride p) (p .len))
 
-by-voice : (t : Env) (src : ℕ) (voice : Bool) → voice && whole (t .stride) (t .upTo) (partOf (t .signals) src) ≡ rowed t (D.Signal src voice)
+by-voice : (t : Env) (src : ℕ) (voice : Bool) → voice && whole (t .stride) (t .upTo) (partOf (t .signals) src) ≡ wholeRow t (D.Signal src voice)
 by-voice t src true = refl
 by-voice t src false = refl
 
 pub signal-rowed : (t : Env) {stride upTo : ℕ} {read : Read} {part : SignalPart} (src : ℕ) {voice r : Bool} → t .stride ≡ stride → t .upTo ≡ upTo → partFor (t .signals) read ≡ part
-    → read ≡ D.Signal src voice → r ≡ voice && whole stride upTo part → r ≡ rowed t read
+    → read ≡ D.Signal src voice → r ≡ voice && whole stride upTo part → r ≡ wholeRow t read
 signal-rowed t src {voice = voice} e d p q k =
     let part : partOf (t .signals) src ≡ _ = rw q at p in
     k ∙ rw (q, ← e, ← d, ← part) (by-voice t src voice)

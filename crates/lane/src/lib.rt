@@ -12,7 +12,7 @@ ghost use Rattle.model.specs.Layout.{routeSlew};
 ghost use Rattle.model.specs.Lanes.{sounding, snapOf};
 ghost use Rattle.model.specs.Mix.{Mix};
 ghost use Rattle.model.specs.Routes.{freeSlew, liveGain};
-ghost use Rattle.model.specs.RouteValue.{ownAt, spread, flipped, sourceIn, auxIn, rawIn, sourced, withAux, gainIn, gained, routeValue, idle, rowed, plain};
+ghost use Rattle.model.specs.RouteValue.{ownAt, spread, flipped, sourceIn, auxIn, rawIn, sourced, withAux, gainIn, gained, routeValue, idle, wholeRow, plain};
 ghost use Rattle.model.specs.Slews.{movesIn, auxSlew, sourceAfter, auxAfter};
 ghost use Rattle.lane_input.specs.Reads.{Sized, IsRows, Reads, Works, partFor};
 ghost use Rattle.lane.specs.View.{mostValues, Placed, IsOwn, Viewed};
@@ -433,7 +433,7 @@ fn signal_rowed(voice: bool, part: SignalPart, stride: usize, up_to: usize) -> b
 
 // Whether a whole row stands there to be read.
 pub fn rowed(read: Read, part: SignalPart, stride: usize, up_to: usize) -> bool
-    ensures { λ r. ⌜ ((t : Env) → t .stride ≡ stride → t .upTo ≡ «up_to» → partFor (t .signals) read ≡ part → r ≡ rowed t read) ⌝ }
+    ensures { λ r. ⌜ ((t : Env) → t .stride ≡ stride → t .upTo ≡ «up_to» → partFor (t .signals) read ≡ part → r ≡ wholeRow t read) ⌝ }
 {
     match read {
         Read::Signal { source: _, voice } => signal_rowed(voice, part, stride, up_to),

@@ -1,10 +1,11 @@
 -- THE ONE CLAIM OVER EVERY LIST OF CALLS (demand 3; stated in specs/Claim.antt): from every engine whose programs are what their names were compiled from, and so from every fresh one.
 -- Assumes nothing.
-use mathlib.Core.Path.{_≡_, refl, sym, ap, subst, _∙_}
+use mathlib.Core.Path.{_≡_, refl, sym, ap, ap₂, subst, _∙_}
 use mathlib.Core.Logic.{_⊎_, inl, inr, _↔_}
 use mathlib.Core.Bool.{Bool, true, false, cond}
-use mathlib.Core.List.{List, [], _∷_, _++_}
-use Prim.Native.Nat.{ℕ, zero, suc, _≤_}
+use mathlib.Core.List.{List, [], _∷_, _++_, map}
+use Prim.Native.Nat.{ℕ, zero, suc, _+_, _≤_}
+use native.Mathlib.Omega.{arith}
 use lib.Dec.{eqb}
 use lib.ListN.{length}
 use lib.Ieee.{Float}
@@ -12,6 +13,7 @@ use borrow.Author.Tests.{eq-eqb}
 use Rattle.config.specs.Sizes.{slots}
 use Rattle.config.specs.declared.Config.{Config}
 use Rattle.refusal.specs.Judge.{judged}
+use Rattle.feed.specs.Numbers.{upFrom}
 use Rattle.feed.proofs.Acyclic.{ordered-exactly}
 use Rattle.state.specs.declared.Sources.{Sources}
 use Rattle.state.specs.declared.Destinations.{Destinations}
@@ -23,15 +25,15 @@ use Rattle.model.specs.Feeds.{countedInto, controls}
 use Rattle.model.specs.Plans.{compiled}
 use Rattle.model.specs.Compile.{Memories, compileRows, compile}
 use Rattle.model.specs.Tick.{tickOf}
-use Rattle.model.specs.Chunks.{chunkTotal, chunkOf}
+use Rattle.model.specs.Chunks.{chunkTotal, chunkOf, chunkList}
 use Rattle.model.specs.World.{World}
 use Rattle.model.specs.States.{putState, putHeld, putGlobals, putBases}
 use Rattle.model.specs.Settings.{freshState, freshWorld, refusedState, newRows, newEngine}
-use Rattle.model.specs.Process.{envOf, snapOf, blockOf, loaded, drawn, chunkSteps, process}
-use Rattle.model.specs.Calls.{Call, held-set, voice-held-set, base-set, amount-set, output-set, limit-set, note-on, note-off, voice-ended, swap, block, program-memory, engine-memory, read, Runner, onWorld, called, run}
+use Rattle.model.specs.Process.{envOf, snapAt, blockOf, loaded, drawn, chunkSteps, process}
+use Rattle.model.specs.Calls.{Call, block, other, Runner, onWorld, called, run}
 use Rattle.model.specs.Rule.{Unbarred}
 use Rattle.model.specs.Model.{Ticks, Does, Rendered, Models, finish, call, walks}
-use Rattle.model.specs.Claim.{Moment, tickAt, chunkTicks, blockTicks, callTicks, ticksOf, chainless, Claimed, Named, nothingWired, Compiled, namesOf, freshRunner, Slotted, Each, Claim}
+use Rattle.model.specs.Claim.{Moment, tickAt, chunkTicks, blockTicks, callTicks, ticksOf, standing, standings, callDue, due, stands, chainless, Claimed, Named, nothingWired, Compiled, namesOf, freshRunner, Slotted, Each, Claim, TheClaim, FromFresh}
 use Rattle.model.proofs.Conds.{cond-true}
 use Rattle.model.proofs.Made.{empty-is-compiled}
 use Rattle.model.proofs.Frames.{steps-frame}
@@ -69,7 +71,7 @@ module _ (w : Wiring) (slotted : length (w .matrix .slot) ≡ slots) (samples : 
       either Held (chunkOf b n .tick) (x ∷ []) (λ e. (λ free. tick-claimed w slotted (u .state) (g .program) (x .env) refl (x .phase) (u .values) (g .room) free, tt))
     where
       x : Moment
-      x = record { wiring = w; state = u .state; env = envOf u samples signals (chunkOf b n) (snapOf n u); phase = chunkOf b n .phase; values = u .values }
+      x = record { wiring = w; state = u .state; env = envOf u samples signals (chunkOf b n) (snapAt n u); phase = chunkOf b n .phase; values = u .values }
 
   chunks-held : (b : Block) (n : ℕ) (u : World) → Good w u → Each Held (chunkTicks w samples signals b n u)
   unfolding chunkTicks
@@ -84,20 +86,67 @@ module _ (w : Wiring) (slotted : length (w .matrix .slot) ≡ slots) (samples : 
       either Held (walks u samples signals start end) (chunkTicks w samples signals b (chunkTotal b) (drawn (loaded u)))
       (λ e. chunks-held b (chunkTotal b) (drawn (loaded u)) (walks-good u samples signals start end is e))
 
+-- ---- a block's list has each chunk that ticks
+
+map-++ : {A B : Type 0} (f : A → B) (xs ys : List A) → map f (xs ++ ys) ≡ map f xs ++ map f ys
+map-++ f [] ys = refl
+map-++ f (x ∷ xs) ys = ap (λ (l : List _). f x ∷ l) (map-++ f xs ys)
+
+up-last : (k n : ℕ) → upFrom k (suc n) ≡ upFrom k n ++ ((k + n) ∷ [])
+up-last k zero = ap (λ (i : ℕ). i ∷ []) (omega arith)
+up-last k (suc n) = ap (λ (l : List ℕ). k ∷ l) (up-last (suc k) n ∙ ap (λ (i : ℕ). upFrom (suc k) n ++ (i ∷ [])) (omega arith))
+
+++-right : {A : Type 0} (xs : List A) → xs ++ [] ≡ xs
+++-right [] = refl
+++-right (x ∷ xs) = ap (λ (l : List _). x ∷ l) (++-right xs)
+
+++-assoc : {A : Type 0} (xs ys zs : List A) → (xs ++ ys) ++ zs ≡ xs ++ (ys ++ zs)
+++-assoc [] ys zs = refl
+++-assoc (x ∷ xs) ys zs = ap (λ (l : List _). x ∷ l) (++-assoc xs ys zs)
+
+standings-++ : (xs ys : List Chunk) → standings (xs ++ ys) ≡ standings xs ++ standings ys
+standings-++ [] ys = refl
+standings-++ (c ∷ xs) ys = ap (_++_ (standing c)) (standings-++ xs ys) ∙ sym (++-assoc (standing c) (standings xs) (standings ys))
+
+module _ (w : Wiring) (samples : List Float) (signals : Signals) where
+  tick-due : (b : Block) (n : ℕ) (u : World) → map stands (tickAt w samples signals b n u) ≡ standing (chunkOf b n)
+  tick-due b n u = by (chunkOf b n .tick)
+    where
+      x : Moment
+      x = record { wiring = w; state = u .state; env = envOf u samples signals (chunkOf b n) (snapAt n u); phase = chunkOf b n .phase; values = u .values }
+
+      by : (t : Bool) → map stands (cond t (x ∷ []) []) ≡ cond t ((chunkOf b n .start, chunkOf b n .phase) ∷ []) []
+      by true = refl
+      by false = refl
+
+  chunks-due : (b : Block) (n : ℕ) (u : World) → map stands (chunkTicks w samples signals b n u) ≡ standings (map (chunkOf b) (upFrom 0 n))
+  unfolding chunkTicks
+  chunks-due b zero u = refl
+  chunks-due b (suc n) u =
+      map-++ stands (chunkTicks w samples signals b n u) (tickAt w samples signals b n (chunkSteps samples signals b n u))
+      ∙ ap₂ _++_ (chunks-due b n u) (tick-due b n (chunkSteps samples signals b n u) ∙ sym (++-right (standing (chunkOf b n))))
+      ∙ sym (standings-++ (map (chunkOf b) (upFrom 0 n)) (chunkOf b n ∷ []))
+      ∙ ap standings (sym (map-++ (chunkOf b) (upFrom 0 n) (n ∷ [])))
+      ∙ ap (λ (i : ℕ). standings (map (chunkOf b) (upFrom 0 n ++ (i ∷ [])))) (let e : n ≡ 0 + n = omega arith in e)
+      ∙ ap (λ (l : List ℕ). standings (map (chunkOf b) l)) (sym (up-last 0 n))
+
+  block-due : (start end : ℕ) (u : World) → map stands (blockTicks w samples signals start end u)
+      ≡ cond (walks u samples signals start end) (standings (chunkList (blockOf (u .state) start end))) []
+  unfolding chunkList
+  block-due start end u = by (walks u samples signals start end)
+    where
+      b : Block
+      b = blockOf (u .state) start end
+
+      by : (t : Bool) → map stands (cond t (chunkTicks w samples signals b (chunkTotal b) (drawn (loaded u))) [])
+          ≡ cond t (standings (chunkList b)) []
+      by true = chunks-due b (chunkTotal b) (drawn (loaded u))
+      by false = refl
+
 -- ---- calls
 
 module _ (names : ℕ → Wiring) where
   does-there : (c : Call) (r : Runner) → Named names r → Does names c r (called c r)
-  does-there (held-set i x) r h = refl
-  does-there (voice-held-set i v x) r h = refl
-  does-there (base-set d x) r h = refl
-  does-there (amount-set n x) r h = refl
-  does-there (output-set n x) r h = refl
-  does-there (limit-set n) r h = refl
-  does-there (note-on v n) r h = refl
-  does-there (note-off v x) r h = refl
-  does-there (voice-ended v) r h = refl
-  does-there (swap k) r h = refl
   does-there (block samples signals start end) r h =
       let w = names (r .installed) in
       record {
@@ -105,46 +154,24 @@ module _ (names : ℕ → Wiring) where
         blocks = blocks-there w (there w (h .slotted (r .installed))) (one w (h .slotted (r .installed))) samples signals start end (r .world) (h .installed);
         same = refl;
       }
-  does-there (program-memory k values audio tables) r h = refl
-  does-there (engine-memory held globals bases) r h = refl
-  does-there read r h = refl
+  does-there (other o) r h = refl
 
   does-one : (c : Call) (r q : Runner) → Named names r → Does names c r q → q ≡ called c r
-  does-one (held-set i x) r q h e = e
-  does-one (voice-held-set i v x) r q h e = e
-  does-one (base-set d x) r q h e = e
-  does-one (amount-set n x) r q h e = e
-  does-one (output-set n x) r q h e = e
-  does-one (limit-set n) r q h e = e
-  does-one (note-on v n) r q h e = e
-  does-one (note-off v x) r q h e = e
-  does-one (voice-ended v) r q h e = e
-  does-one (swap k) r q h e = e
   does-one (block samples signals start end) r q h e =
       let w = names (r .installed) in
       e .same
       ∙ ap (onWorld r)
       (blocks-one w (there w (h .slotted (r .installed))) (one w (h .slotted (r .installed))) samples signals start end (r .world) (h .installed) (e .after) (e .blocks))
-  does-one (program-memory k values audio tables) r q h e = e
-  does-one (engine-memory held globals bases) r q h e = e
-  does-one read r q h e = e
+  does-one (other o) r q h e = e
 
   call-held : (c : Call) (r : Runner) → Named names r → Each Held (callTicks names c r)
-  call-held (held-set i x) r h = tt
-  call-held (voice-held-set i v x) r h = tt
-  call-held (base-set d x) r h = tt
-  call-held (amount-set n x) r h = tt
-  call-held (output-set n x) r h = tt
-  call-held (limit-set n) r h = tt
-  call-held (note-on v n) r h = tt
-  call-held (note-off v x) r h = tt
-  call-held (voice-ended v) r h = tt
-  call-held (swap k) r h = tt
   call-held (block samples signals start end) r h =
       block-held (names (r .installed)) (h .slotted (r .installed)) samples signals start end (r .world) (h .installed)
-  call-held (program-memory k values audio tables) r h = tt
-  call-held (engine-memory held globals bases) r h = tt
-  call-held read r h = tt
+  call-held (other o) r h = tt
+
+  call-due : (c : Call) (r : Runner) → map stands (callTicks names c r) ≡ callDue c r
+  call-due (block samples signals start end) r = block-due (names (r .installed)) samples signals start end (r .world)
+  call-due (other o) r = refl
 
   -- ---- lists of calls
 
@@ -164,12 +191,17 @@ module _ (names : ℕ → Wiring) where
   ticks [] r h = tt
   ticks (c ∷ cs) r h = both Held (callTicks names c r) (ticksOf names cs (called c r)) (call-held c r h) (ticks cs (called c r) (called-named names r h c))
 
-  -- THE CLAIM
-  pub the-claim : (cs : List Call) (r : Runner) → Named names r → Claim names cs r
-  the-claim cs r h = record { runs = runs cs r h; only = λ q m. only cs r q h m; ticks = ticks cs r h }
+  every : (cs : List Call) (r : Runner) → map stands (ticksOf names cs r) ≡ due cs r
+  every [] r = refl
+  every (c ∷ cs) r = map-++ stands (callTicks names c r) (ticksOf names cs (called c r)) ∙ ap₂ _++_ (call-due c r) (every cs (called c r))
 
--- and so of every fresh engine, with any programs compiled from matrices of 64 slots
-pub fresh-claim : (ss : Sources) (ds : Destinations) (c : Config) (ps : List Compiled) → Slotted ps → (cs : List Call) → Claim (namesOf c ps) cs (freshRunner ss ds c ps)
+-- THE CLAIM
+pub the-claim : TheClaim
+the-claim names cs r h =
+    record { runs = runs names cs r h; only = λ q m. only names cs r q h m; every = every names cs r; ticks = ticks names cs r h }
+
+-- and so of every fresh engine, with any programs compiled from matrices with all slots
+pub fresh-claim : FromFresh
 fresh-claim ss ds c ps s cs = the-claim (namesOf c ps) cs (freshRunner ss ds c ps) (fresh-named c ss ds ps s)
 
 -- ---- what it rests on can be met

@@ -21,7 +21,7 @@ use Rattle.model.specs.Audio.{Sounds, atFrame, audioFrame, audioFrames, 
 use Rattle.model.specs.Chunks.{chunkOf}
 use Rattle.model.specs.World.{World}
 use Rattle.model.specs.States.{withMarks, withVelocity, withKey, withDraw, withPhase, withBlock, withPrimed, putState, putHeld, putGlobals, putValues, putAudio}
-use Rattle.model.specs.Process.{glided, loaded, Drawn, drawVoices, randomStart, drawRead, drawAux, drawRoutes, putDrawn, drawn, envOf, snapOf, primedWith, ticked, rowOfChunk, rowsOfChunk, rowed, sounded, afterTick, chunkStep, chunkSteps, closed}
+use Rattle.model.specs.Process.{glided, loaded, Drawn, drawVoices, randomStart, drawRead, drawAux, drawRoutes, putDrawn, drawn, envOf, snapAt, primedWith, ticked, rowOfChunk, rowsOfChunk, rowed, sounded, afterTick, chunkStep, chunkSteps, closed}
 use Rattle.model.proofs.FillFrom.{fill-length}
 
 -- ---- how long
@@ -155,7 +155,7 @@ ticked-frame samples signals c snap u =
 step-frame : (samples : List Float) (signals : Signals) (i : ℕ) (c : Chunk) (u : World) → Frame u (chunkStep samples signals i c u)
 unfolding chunkStep
 step-frame samples signals i c u =
-    frame-on (ticked-frame samples signals c (snapOf i u) u) (after-frame samples signals i c (snapOf i u) (ticked samples signals c (snapOf i u) u))
+    frame-on (ticked-frame samples signals c (snapAt i u) u) (after-frame samples signals i c (snapAt i u) (ticked samples signals c (snapAt i u) u))
 
 pub steps-frame : (samples : List Float) (signals : Signals) (b : Block) (n : ℕ) (u : World) → Frame u (chunkSteps samples signals b n u)
 unfolding chunkSteps

@@ -8,7 +8,7 @@ use native.Mathlib.Nat.{mul-add, add-mul, mul-comm, mul-left-comm, mul-le-mul-le
 use native.Mathlib.Decide.{ℕ-discrete}
 use native.Mathlib.Omega.{arith}
 use Rattle.list.proofs.Rows.{row-inside, rows-apart}
-use Rattle.model.specs.Layout.{planWidth, planSize, routeSize, audioSize, Sizes, Memory, values, audio, need, PlanPart, from, to, fromAt, toAt, RoutePart, slew, random, Part, ofPlan, ofRoute, atFrame, ValidOfPlan, ValidOfRoute, widthOf, start, width, Valid, Apart}
+use Rattle.model.specs.Layout.{planWidth, planSize, routeSize, audioSize, Sizes, Memory, values, audio, need, PlanPart, from, to, fromAt, toAt, RoutePart, slew, random, Part, ofPlan, ofRoute, ofFrame, ValidOfPlan, ValidOfRoute, rowWidth, start, width, Valid, Apart}
 
 -- ---- blocks of equal size, one after the other, and what stands inside them
 
@@ -99,7 +99,7 @@ module _ (z : Sizes) where
 
   -- of a part of plan i, in the plan's block
   abbrev place : ℕ → PlanPart → ℕ
-  place i q = inPlan (z .stride) (z .chunks) (widthOf z i) q
+  place i q = inPlan (z .stride) (z .chunks) (rowWidth z i) q
 
   values-need : need z values ≡ z .plans * planBlock + z .routes * routeBlock
   values-need =
@@ -129,7 +129,7 @@ module _ (z : Sizes) where
 -- ---- THE THEOREMS
 
 module _ (z : Sizes) (h : 1 ≤ z .stride) where
-  narrow : (i : ℕ) → widthOf z i ≤ z .stride
+  narrow : (i : ℕ) → rowWidth z i ≤ z .stride
   narrow i = go (z .voice i)
     where
       go : (v : Bool) → planWidth (z .stride) v ≤ z .stride
@@ -137,15 +137,15 @@ module _ (z : Sizes) (h : 1 ≤ z .stride) where
       go false = omega arith
 
   -- what a plan has stays in its block
-  of-plan : (i : ℕ) (q : PlanPart) → ValidOfPlan (z .chunks) q → place z i q + widthOf z i ≤ planBlock z
-  of-plan i q v = inPlan-inside (z .stride) (z .chunks) (widthOf z i) (narrow i) q v
+  of-plan : (i : ℕ) (q : PlanPart) → ValidOfPlan (z .chunks) q → place z i q + rowWidth z i ≤ planBlock z
+  of-plan i q v = inPlan-inside (z .stride) (z .chunks) (rowWidth z i) (narrow i) q v
 
-  at-frame : (i k : ℕ) → k < z .frames → k * widthOf z i + widthOf z i ≤ audioBlock z
-  at-frame i k v = omega (arith, narrow-inside (widthOf z i) (z .stride) (narrow i) v, mul-comm (z .stride) (z .frames))
+  at-frame : (i k : ℕ) → k < z .frames → k * rowWidth z i + rowWidth z i ≤ audioBlock z
+  at-frame i k v = omega (arith, narrow-inside (rowWidth z i) (z .stride) (narrow i) v, mul-comm (z .stride) (z .frames))
 
   -- the plans end before the routes start
-  plan-ends : (i : ℕ) (q : PlanPart) → Valid z (ofPlan i q) → start z (ofPlan i q) + widthOf z i ≤ z .plans * planBlock z
-  plan-ends i q v = omega (arith, plan-start z i q, block-inside (planBlock z) (place z i q) (widthOf z i) (v .0) (of-plan i q (v .1)))
+  plan-ends : (i : ℕ) (q : PlanPart) → Valid z (ofPlan i q) → start z (ofPlan i q) + rowWidth z i ≤ z .plans * planBlock z
+  plan-ends i q v = omega (arith, plan-start z i q, block-inside (planBlock z) (place z i q) (rowWidth z i) (v .0) (of-plan i q (v .1)))
 
   -- EVERY PART ENDS INSIDE ITS MEMORY
   pub parts-inside : {m : Memory} (p : Part m) → Valid z p → start z p + width z p ≤ need z m
@@ -157,20 +157,20 @@ module _ (z : Sizes) (h : 1 ≤ z .stride) where
         values-need z,
         block-inside (routeBlock z) (inRoute q * z .stride) (z .stride) (v .0) (inRoute-inside (z .stride) q (v .1)),
       )
-  parts-inside (atFrame i k) v =
-      omega (arith, audio-need z, block-inside (audioBlock z) (k * widthOf z i) (widthOf z i) (v .0) (at-frame i k (v .1)))
+  parts-inside (ofFrame i k) v =
+      omega (arith, audio-need z, block-inside (audioBlock z) (k * rowWidth z i) (rowWidth z i) (v .0) (at-frame i k (v .1)))
 
   -- two parts of one plan, and of two
   plan-apart : (i : ℕ) (q r : PlanPart) → ValidOfPlan (z .chunks) q → ValidOfPlan (z .chunks) r → q ≢ r → Apart z (ofPlan i q) (ofPlan i r)
   plan-apart i q r v u n =
-      let w = widthOf z i in
+      let w = rowWidth z i in
       rw (plan-start z i q, plan-start z i r)
       (aside-after (i * planBlock z) (place z i q) w (place z i r) w (inPlan-aside (z .stride) (z .chunks) w (narrow i) q r v u n))
 
   plans-apart : (i j : ℕ) (q r : PlanPart) → ValidOfPlan (z .chunks) q → ValidOfPlan (z .chunks) r → i ≢ j → Apart z (ofPlan i q) (ofPlan j r)
   plans-apart i j q r v u n =
       rw (plan-start z i q, plan-start z j r)
-      (blocks-aside (planBlock z) (place z i q) (widthOf z i) (place z j r) (widthOf z j) n (of-plan i q v) (of-plan j r u))
+      (blocks-aside (planBlock z) (place z i q) (rowWidth z i) (place z j r) (rowWidth z j) n (of-plan i q v) (of-plan j r u))
 
   -- of one route, and of two
   route-apart : (r : ℕ) (q p : RoutePart) → ValidOfRoute q → ValidOfRoute p → q ≢ p → Apart z (ofRoute r q) (ofRoute r p)
@@ -188,9 +188,9 @@ module _ (z : Sizes) (h : 1 ≤ z .stride) where
       (blocks-aside (routeBlock z) (inRoute q * s) s (inRoute p * s) s n (inRoute-inside s q v) (inRoute-inside s p u)))
 
   -- of one plan's audio rows, and of two plans'
-  row-apart : (i k l : ℕ) → k ≢ l → Apart z (atFrame i k) (atFrame i l)
+  row-apart : (i k l : ℕ) → k ≢ l → Apart z (ofFrame i k) (ofFrame i l)
   row-apart i k l n =
-      let w = widthOf z i in
+      let w = rowWidth z i in
       aside-after (i * audioBlock z) (k * w) w (l * w) w (rows-apart w n)
 
   -- TWO DIFFERENT PARTS OF ONE MEMORY STAND APART
@@ -205,7 +205,7 @@ module _ (z : Sizes) (h : 1 ≤ z .stride) where
     | yes e ↦ subst (λ (x : ℕ). Apart z (ofRoute r q) (ofRoute x p)) e (route-apart r q p (v .1) (u .1) (λ d. n (cc)))
     | no d ↦ routes-apart r t q p (v .1) (u .1) d
   ]
-  parts-apart (atFrame i k) (atFrame j l) v u n = elim (ℕ-discrete i j) [
-    | yes e ↦ subst (λ (x : ℕ). Apart z (atFrame i k) (atFrame x l)) e (row-apart i k l (λ d. n (cc)))
-    | no d ↦ blocks-aside (audioBlock z) (k * widthOf z i) (widthOf z i) (l * widthOf z j) (widthOf z j) d (at-frame i k (v .1)) (at-frame j l (u .1))
+  parts-apart (ofFrame i k) (ofFrame j l) v u n = elim (ℕ-discrete i j) [
+    | yes e ↦ subst (λ (x : ℕ). Apart z (ofFrame i k) (ofFrame x l)) e (row-apart i k l (λ d. n (cc)))
+    | no d ↦ blocks-aside (audioBlock z) (k * rowWidth z i) (rowWidth z i) (l * rowWidth z j) (rowWidth z j) d (at-frame i k (v .1)) (at-frame j l (u .1))
   ]

@@ -24,7 +24,7 @@ use Rattle.model.specs.Counts.{frameCount, planTotal, routeTotal}
 use Rattle.model.specs.Tick.{tickOf}
 use Rattle.model.specs.Chunks.{chunkTotal, chunkOf}
 use Rattle.model.specs.World.{World}
-use Rattle.model.specs.Process.{valuesOf, audioNeedOf, tablesNeedOf, anyStride, anyOutside, programShort, engineShort, processRows, loaded, drawn, envOf, snapOf, primedWith, ticked, afterTick, chunkStep, chunkSteps, blockOf, closed, routeless, routed, run, process}
+use Rattle.model.specs.Process.{valuesOf, audioNeedOf, tablesNeedOf, anyStride, anyOutside, programShort, engineShort, processRows, loaded, drawn, envOf, snapAt, primedWith, ticked, afterTick, chunkStep, chunkSteps, blockOf, closed, routeless, routed, overRange, process}
 use Rattle.model.specs.Model.{Ticks, Steps, still, ticks, Chunks, none, more, walks, Blocks, quiet, walked}
 use Rattle.model.proofs.Conds.{cond-true, cond-false}
 use Rattle.model.proofs.Frames.{Frame, frame-on, loaded-frame, drawn-frame, steps-frame}
@@ -85,7 +85,7 @@ module _ (u : World) (samples : List Float) (signals : Signals) (start end : ℕ
   walks-chunks e =
       let accepted = and-true-l (eqb (process u samples signals start end .code) 0 && ltb start end) (not (eqb (routeTotal (u .state .program)) 0)) e in
       let routes = and-true-r (eqb (process u samples signals start end .code) 0 && ltb start end) (not (eqb (routeTotal (u .state .program)) 0)) e in
-      cond-true (eqb (judged (processRows u samples signals end)) 0 && ltb start end) (run samples signals start end u) u accepted
+      cond-true (eqb (judged (processRows u samples signals end)) 0 && ltb start end) (overRange samples signals start end u) u accepted
       ∙ cond-false (eqb (routeTotal (u .state .program)) 0) (routeless (end - start) u) (routed samples signals start end u) (not-true (eqb (routeTotal (u .state .program)) 0) routes)
 
 pub walks-good : {w : Wiring} (u : World) (samples : List Float) (signals : Signals) (start end : ℕ) → u .state .program ≡ compiled w → walks u samples signals start end ≡ true → Good w (drawn (loaded u))
@@ -102,10 +102,10 @@ module _ (w : Wiring)
     (samples : List Float) (signals : Signals) where
   module _ (i : ℕ) (c : Chunk) (u : World) (g : Good w u) where
     abbrev after : World → World
-    after = afterTick samples signals i c (snapOf i u)
+    after = afterTick samples signals i c (snapAt i u)
 
     abbrev ticked-values : List Float
-    ticked-values = tickOf (u .state) (envOf u samples signals c (snapOf i u)) (c .phase) (u .values)
+    ticked-values = tickOf (u .state) (envOf u samples signals c (snapAt i u)) (c .phase) (u .values)
 
     step-ticks : c .tick ≡ true → chunkStep samples signals i c u ≡ after (primedWith u ticked-values)
     unfolding chunkStep
@@ -117,13 +117,13 @@ module _ (w : Wiring)
 
     step-there : Steps w samples signals i c u (chunkStep samples signals i c u)
     step-there = elim (which (c .tick)) [
-      | inl e ↦ ticks e ticked-values (there u samples signals c (snapOf i u) g) (step-ticks e)
+      | inl e ↦ ticks e ticked-values (there u samples signals c (snapAt i u) g) (step-ticks e)
       | inr e ↦ still e (step-still e)
     ]
 
     step-one : (v : World) → Steps w samples signals i c u v → v ≡ chunkStep samples signals i c u
     step-one v (still e p) = p ∙ sym (step-still e)
-    step-one v (ticks e m tick p) = p ∙ ap (λ (n : List Float). after (primedWith u n)) (one u samples signals c (snapOf i u) m g tick) ∙ sym (step-ticks e)
+    step-one v (ticks e m tick p) = p ∙ ap (λ (n : List Float). after (primedWith u n)) (one u samples signals c (snapAt i u) m g tick) ∙ sym (step-ticks e)
 
   module _ (b : Block) where
     chunks-there : (n : ℕ) (u : World) → Good w u → Chunks w samples signals b n u (chunkSteps samples signals b n u)

@@ -20,7 +20,7 @@ use Rattle.voice.specs.Marks.{marksOn}
 use Rattle.voice.specs.Notes.{setNote}
 use Rattle.config.specs.declared.Config.{Config}
 use Rattle.refusal.specs.Judge.{Row, judged}
-use Rattle.feed.proofs.Tests.{which, or-false-l, or-false-r}
+use Rattle.feed.proofs.Tests.{which}
 use Rattle.slots.specs.Slots.{emptySlot}
 use Rattle.slots.specs.Matrix.{newMatrix}
 use Rattle.state.specs.declared.Sources.{Sources}
@@ -34,21 +34,14 @@ use Rattle.model.specs.Counts.{strideOf, engineSources, routeTotal}
 use Rattle.model.specs.Chunks.{chunkTotal}
 use Rattle.model.specs.World.{World, markAt, heldPlace, heldOf, isVelocity, isKey, isRelease, isRandom}
 use Rattle.model.specs.States.{withVoices, withMarks, withVelocity, withKey, withGains, withAlternate, withDraw, withLimit, withPrimed, withProgram, putState, putHeld, putGlobals, putBases}
-use Rattle.model.specs.Process.{processRows, loaded, drawn, glided, blockOf, noBlock, chunkSteps, closed, routeless, routed, run, process}
-use Rattle.model.specs.Settings.{Done, doneBy, freshState, heldRows, heldWorld, voiceHeldRows, baseRows, gainRows, withAmount, withOutput, setHeld, setVoiceHeld, setBase, setAmount, setOutput, setVoiceLimit, swapRows, installed, swapProgram}
-use Rattle.model.specs.NoteCalls.{Note, velocityTarget, keyTarget, legatoOf, writtenAt, alternates, noteOnRows, begun, velocitySet, keySet, randomsSet, alternated, notedOn, noteOffRows, releasedTo, voiceEndedRows, ended, noteOn, noteOff, voiceEnded}
-use Rattle.model.specs.Calls.{Call, held-set, voice-held-set, base-set, amount-set, output-set, limit-set, note-on, note-off, voice-ended, swap, block, program-memory, engine-memory, read, Kept, Runner, keptOf, noKept, onWorld, exchanged, keptAt, programAt, swapped, lentValues, programArrives, engineArrives, called}
+use Rattle.model.specs.Process.{processRows, loaded, drawn, glided, blockOf, noBlock, chunkSteps, closed, routeless, routed, overRange, process}
+use Rattle.model.specs.Settings.{Done, doneBy, freshState, heldRows, heldWorld, voiceHeldRows, baseRows, gainRows, withAmount, withOutput, setHeld, setVoiceHeld, setBase, setAmount, setOutput, setVoiceLimit, setDraw, swapRows, installed, swapProgram}
+use Rattle.model.specs.NoteCalls.{Note, velocityTarget, keyTarget, legatoOf, writtenAt, alternates, noteOnRows, noteBegun, velocitySet, keySet, randomsSet, alternated, notedOn, noteOffRows, releasedTo, voiceEndedRows, ended, noteOn, noteOff, voiceEnded}
+use Rattle.model.specs.Calls.{Call, block, other, Other, set-held, set-voice-held, set-base, set-amount, set-output, set-limit, set-draw, start-note, release-note, end-voice, install, lend-program, lend-engine, look, Kept, Runner, keptOf, noKept, onWorld, returned, exchanged, keptAt, programAt, swapped, lentValues, programArrives, engineArrives, effectOf, called}
 use Rattle.model.specs.Claim.{Named, nothingWired, Compiled, namesOf, freshRunner, Slotted}
 use Rattle.model.proofs.Made.{empty-is-compiled}
 use Rattle.model.proofs.Conds.{cond-true, cond-false, cond-of}
 use Rattle.model.proofs.Frames.{Frame, frame-on, loaded-frame, drawn-frame, glided-frame, steps-frame, closed-frame}
-
-absurd-test : {A : Type 0} → _≡_ {A = Bool} true false → A
-absurd-test e = absurd (let z : _≡_ {A = ℕ} 0 1 = ap (λ (b : Bool). cond b 0 1) e in omega arith)
-
-not-false : (b : Bool) → not b ≡ false → b ≡ true
-not-false true e = refl
-not-false false e = sym e
 
 -- a list with the program of number k as it was
 set-program : (l : List Kept) (k j : ℕ) (d : Kept) (values audio tables : List Float)
@@ -100,7 +93,7 @@ module _ (u : World) where
 -- ---- a note
 
 module _ (v : ℕ) (n : Note) where
-  begun-stays : (u : World) → Stays u (begun v n u)
+  begun-stays : (u : World) → Stays u (noteBegun v n u)
   unfolding withMarks withVoices
   begun-stays u = state-put u (withMarks (withVoices (u .state) (soundedOn (u .state .voices) v)) (marksOn (u .state .marks) v (n .legato))) refl refl
 
@@ -138,7 +131,7 @@ module _ (v : ℕ) (n : Note) where
 
   noted-stays : (u : World) → Stays u (notedOn v n u)
   noted-stays u =
-      let a = begun v n u in
+      let a = noteBegun v n u in
       let b = velocitySet v n a in
       let c = keySet v n b in
       let d = randomsSet v (engineSources (u .state)) c in
@@ -155,7 +148,7 @@ unfolding process
 block-stays u samples signals start end =
     let b = blockOf (u .state) start end in
     let d = drawn (loaded u) in
-    cond-of (Stays u) (eqb (judged (processRows u samples signals end)) 0 && ltb start end) (run samples signals start end u) u
+    cond-of (Stays u) (eqb (judged (processRows u samples signals end)) 0 && ltb start end) (overRange samples signals start end u) u
     (cond-of (Stays u) (eqb (routeTotal (u .state .program)) 0) (routeless (end - start) u) (routed samples signals start end u)
     (of-frame (frame-on (glided-frame (end - start) u) (closed-frame noBlock (end - start) (glided (end - start) u))))
     (of-frame
@@ -200,6 +193,10 @@ module _ (u : World) where
   unfolding setVoiceLimit withLimit
   limit-stays n = let st = withLimit (u .state) (max n 1) in done-stays [] u (putState u st) (state-put u st refl refl)
 
+  draw-stays : (x : ℕ) → Stays u (setDraw u x .world)
+  unfolding setDraw withDraw
+  draw-stays x = let st = withDraw (u .state) x in done-stays [] u (putState u st) (state-put u st refl refl)
+
   note-on-stays : (v : ℕ) (n : Note) → Stays u (noteOn u v n .world)
   unfolding noteOn
   note-on-stays v n = done-stays (noteOnRows u v n) u (notedOn v n u) (noted-stays v n u)
@@ -214,69 +211,74 @@ module _ (u : World) where
 
 -- ---- the names
 
+-- what is installed, as it comes back
+abbrev back : Runner → Kept
+back r = record { program = r .world .state .program; values = r .world .values; audio = r .world .audio; tables = r .world .tables }
+
+-- a program that is not installed is the one that is kept
+other-kept : (r : Runner) (k : ℕ) → k ≢ r .installed → programAt r k ≡ getD (r .kept) k (noKept (r .world .state .config)) .program
+other-kept r k ne = ap (λ (x : Kept). x .program) (getD-set-other (r .kept) (r .installed) k (back r) (noKept (r .world .state .config)) ne)
+
 module _ (names : ℕ → Wiring) (r : Runner) (h : Named names r) where
+  -- every program, the installed one among them
+  all-named : (k : ℕ) → programAt r k ≡ compiled (names k)
+  all-named k = elim (ℕ-discrete k (r .installed)) [
+    | yes q ↦ rw q (ap (λ (x : Kept). x .program) (getD-set-same (r .kept) (r .installed) (back r) (noKept (r .world .state .config)) (h .there)) ∙ h .installed)
+    | no ne ↦ h .others k ne
+  ]
+
   world-named : (v : World) → Stays (r .world) v → Named names (onWorld r v)
   world-named v s =
       record {
         installed = s .program ∙ h .installed;
         there = h .there;
-        others = λ k ne. ap (λ (c : Config). getD (r .kept) k (noKept c) .program) (s .config) ∙ h .others k ne;
+        others = λ k ne.
+            other-kept (onWorld r v) k ne
+            ∙ ap (λ (c : Config). getD (r .kept) k (noKept c) .program) (s .config)
+            ∙ sym (other-kept r k ne)
+            ∙ h .others k ne;
         slotted = h .slotted;
       }
 
-  -- of the programs that are not installed, one that takes the program of its number
-  kept-named : (k : ℕ) (p : Kept) (j : ℕ) → p .program ≡ compiled (names k) → k < length (r .kept) → (j ≢ k → programAt r j ≡ compiled (names j))
-      → getD (set (r .kept) k p) j (noKept (r .world .state .config)) .program ≡ compiled (names j)
-  kept-named k p j e inside else = elim (ℕ-discrete j k) [
-    | yes q ↦ rw q (ap (λ (x : Kept). x .program) (getD-set-same (r .kept) k p (noKept (r .world .state .config)) inside) ∙ e)
-    | no ne ↦ ap (λ (x : Kept). x .program) (getD-set-other (r .kept) k j p (noKept (r .world .state .config)) ne) ∙ else ne
-  ]
-
-  exchanged-named : (k : ℕ) → swapProgram (r .world .state) (programAt r k) .code ≡ 0 → k ≢ r .installed → k < length (r .kept) → Named names (exchanged r k (keptAt r k))
+  exchanged-named : (k : ℕ) → swapProgram (r .world .state) (programAt r k) .code ≡ 0 → k < length (r .kept) → Named names (exchanged r k (keptAt r k))
   unfolding swapProgram withMarks withPrimed withGains withProgram
-  exchanged-named k accepted ne inside =
+  exchanged-named k accepted inside =
       let p = programAt r k in
       let st = swapProgram (r .world .state) p .state in
       let e : st ≡ installed (r .world .state) p = cond-true (eqb (judged (swapRows (r .world .state) p)) 0) (installed (r .world .state) p) (r .world .state) (eq-eqb _ 0 accepted) in
-      let old : Kept = record { program = r .world .state .program; values = r .world .values; audio = r .world .audio; tables = r .world .tables } in
       record {
-        installed = ap (λ (s : State). s .program) e ∙ h .others k ne;
-        there = omega (arith, length-set (r .kept) (r .installed) old);
+        installed = ap (λ (s : State). s .program) e ∙ all-named k;
+        there = omega (arith, length-set (r .kept) (r .installed) (back r));
         others =
             λ j nj.
-            ap (λ (c : Config). getD (set (r .kept) (r .installed) old) j (noKept c) .program) (ap (λ (s : State). s .config) e)
-            ∙ kept-named (r .installed) old j (h .installed) (h .there) (h .others j);
+            other-kept (exchanged r k (keptAt r k)) j nj
+            ∙ ap (λ (c : Config). getD (returned r) j (noKept c) .program) (ap (λ (s : State). s .config) e)
+            ∙ all-named j;
         slotted = h .slotted;
       }
 
   swapped-named : (k : ℕ) → Named names (swapped r k)
   swapped-named k = go (which (eqb (swapProgram (r .world .state) (programAt r k) .code) 0))
     where
-      other : (eqb k (r .installed) || not (ltb k (length (r .kept))) ≡ false) → (k ≢ r .installed) × (k < length (r .kept))
-      other e = (
-        λ q. let z = or-false-l (eqb k (r .installed)) (not (ltb k (length (r .kept)))) e in absurd-test (sym (eq-eqb k (r .installed) q) ∙ z),
-        ltb-true k (length (r .kept)) (not-false (ltb k (length (r .kept))) (or-false-r (eqb k (r .installed)) (not (ltb k (length (r .kept)))) e)),
-      )
-
       go : (eqb (swapProgram (r .world .state) (programAt r k) .code) 0 ≡ true) ⊎ (eqb (swapProgram (r .world .state) (programAt r k) .code) 0 ≡ false) → Named names (swapped r k)
       go (inr e) = subst (Named names) (sym (cond-false (eqb (swapProgram (r .world .state) (programAt r k) .code) 0) _ r e)) h
       go (inl e) =
           subst (Named names) (sym (cond-true (eqb (swapProgram (r .world .state) (programAt r k) .code) 0) _ r e))
-          (elim (which (eqb k (r .installed) || not (ltb k (length (r .kept))))) [
-            | inl q ↦ subst (Named names) (sym (cond-true (eqb k (r .installed) || not (ltb k (length (r .kept)))) r (exchanged r k (keptAt r k)) q)) h
-            | inr q ↦
-                subst (Named names) (sym (cond-false (eqb k (r .installed) || not (ltb k (length (r .kept)))) r (exchanged r k (keptAt r k)) q))
-                (exchanged-named k (eqb-true _ 0 e) (other q .0) (other q .1))
+          (elim (which (ltb k (length (r .kept)))) [
+            | inl q ↦
+                subst (Named names) (sym (cond-true (ltb k (length (r .kept))) (exchanged r k (keptAt r k)) r q))
+                (exchanged-named k (eqb-true _ 0 e) (ltb-true k (length (r .kept)) q))
+            | inr q ↦ subst (Named names) (sym (cond-false (ltb k (length (r .kept))) (exchanged r k (keptAt r k)) r q)) h
           ])
 
   arrives-named : (k : ℕ) (values audio tables : List Float) → Named names (programArrives r k values audio tables)
   arrives-named k values audio tables =
-      cond-of (Named names) (eqb k (r .installed)) (onWorld r v) (record { world = r .world; kept = set (r .kept) k p; installed = r .installed })
+      cond-of (Named names) (eqb k (r .installed)) (onWorld r v) q
       (world-named v (record { program = refl; config = refl }))
       (record {
         installed = h .installed;
-        there = omega (arith, length-set (r .kept) k p, h .there);
-        others = λ j ne. set-program (r .kept) k j (noKept (r .world .state .config)) values audio tables ∙ h .others j ne;
+        there = omega (arith, length-set (returned r) k p, length-set (r .kept) (r .installed) (back r), h .there);
+        others = λ j ne. other-kept q j ne ∙ set-program (returned r) k j (noKept (r .world .state .config)) values audio tables ∙ all-named j;
         slotted = h .slotted;
       })
     where
@@ -286,23 +288,30 @@ module _ (names : ℕ → Wiring) (r : Runner) (h : Named names r) where
       p : Kept
       p = record { program = programAt r k; values = values; audio = audio; tables = tables }
 
+      q : Runner
+      q = record { world = r .world; kept = set (returned r) k p; installed = r .installed }
+
+  effect-named : (o : Other) → Named names (effectOf o r .left)
+  effect-named (set-held i x) = world-named (setHeld (r .world) i x .world) (held-stays (r .world) i x)
+  effect-named (set-voice-held i v x) = world-named (setVoiceHeld (r .world) i v x .world) (voice-held-stays (r .world) i v x)
+  effect-named (set-base d x) = world-named (setBase (r .world) d x .world) (base-stays (r .world) d x)
+  effect-named (set-amount n x) = world-named (setAmount (r .world) n x .world) (amount-stays (r .world) n x)
+  effect-named (set-output n x) = world-named (setOutput (r .world) n x .world) (output-stays (r .world) n x)
+  effect-named (set-limit n) = world-named (setVoiceLimit (r .world) n .world) (limit-stays (r .world) n)
+  effect-named (set-draw x) = world-named (setDraw (r .world) x .world) (draw-stays (r .world) x)
+  effect-named (start-note v n) = world-named (noteOn (r .world) v n .world) (note-on-stays (r .world) v n)
+  effect-named (release-note v x) = world-named (noteOff (r .world) v x .world) (note-off-stays (r .world) v x)
+  effect-named (end-voice v) = world-named (voiceEnded (r .world) v .world) (ended-stays (r .world) v)
+  effect-named (install k) = swapped-named k
+  effect-named (lend-program k values audio tables) = arrives-named k values audio tables
+  effect-named (lend-engine held globals bases) = world-named (engineArrives (r .world) held globals bases) (record { program = refl; config = refl })
+  effect-named look = h
+
   -- A CALL LEAVES THE NAMES
   pub called-named : (c : Call) → Named names (called c r)
-  called-named (held-set i x) = world-named (setHeld (r .world) i x .world) (held-stays (r .world) i x)
-  called-named (voice-held-set i v x) = world-named (setVoiceHeld (r .world) i v x .world) (voice-held-stays (r .world) i v x)
-  called-named (base-set d x) = world-named (setBase (r .world) d x .world) (base-stays (r .world) d x)
-  called-named (amount-set n x) = world-named (setAmount (r .world) n x .world) (amount-stays (r .world) n x)
-  called-named (output-set n x) = world-named (setOutput (r .world) n x .world) (output-stays (r .world) n x)
-  called-named (limit-set n) = world-named (setVoiceLimit (r .world) n .world) (limit-stays (r .world) n)
-  called-named (note-on v n) = world-named (noteOn (r .world) v n .world) (note-on-stays (r .world) v n)
-  called-named (note-off v x) = world-named (noteOff (r .world) v x .world) (note-off-stays (r .world) v x)
-  called-named (voice-ended v) = world-named (voiceEnded (r .world) v .world) (ended-stays (r .world) v)
-  called-named (swap k) = swapped-named k
   called-named (block samples signals start end) =
       world-named (process (r .world) samples signals start end .world) (block-stays (r .world) samples signals start end)
-  called-named (program-memory k values audio tables) = arrives-named k values audio tables
-  called-named (engine-memory held globals bases) = world-named (engineArrives (r .world) held globals bases) (record { program = refl; config = refl })
-  called-named read = h
+  called-named (other o) = effect-named o
 
 -- ---- a fresh engine
 
@@ -334,7 +343,7 @@ module _ (c : Config) where
     where
       others : (k : ℕ) → k ≢ 0 → programAt (freshRunner ss ds c ps) k ≡ compiled (namesOf c ps k)
       others zero ne = absurd (ne refl)
-      others (suc k) ne = given ps k
+      others (suc k) ne = other-kept (freshRunner ss ds c ps) (suc k) ne ∙ given ps k
 
       slotted : (k : ℕ) → length (namesOf c ps k .matrix .slot) ≡ slots
       slotted zero = new-slots

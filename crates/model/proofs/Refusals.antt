@@ -21,34 +21,39 @@ use Rattle.state.specs.declared.Signals.{Signals}
 use Rattle.state.specs.declared.Reading.the-variants as R
 use Rattle.state.specs.declared.State.{State}
 use Rattle.model.specs.World.{World, heldPlace}
-use Rattle.model.specs.States.{withGains, withLimit, putState, putHeld, putBases}
+use Rattle.model.specs.States.{withGains, withDraw, withLimit, putState, putHeld, putBases}
 use Rattle.model.specs.Process.{processRows, process}
-use Rattle.model.specs.Settings.{Done, doneBy, heldRows, heldWorld, voiceHeldRows, baseRows, gainRows, withAmount, withOutput, setHeld, setVoiceHeld, setBase, setAmount, setOutput, setVoiceLimit, swapProgram, refusedState, newRows, freshWorld, newEngine, bindSignal}
-use Rattle.model.specs.Outputs.{readingNumber, rampedNumber, readBy, valuesShort, isControlPlan, ramped, rampOf, rampLength, latestAll}
+use Rattle.model.specs.Settings.{Done, doneBy, heldRows, heldWorld, voiceHeldRows, baseRows, gainRows, withAmount, withOutput, setHeld, setVoiceHeld, setBase, setAmount, setOutput, setVoiceLimit, setDraw, swapProgram, refusedState, newRows, freshWorld, newEngine, bindSignal}
+use Rattle.model.specs.Outputs.{readingNumber, rampedNumber, readingBy, valuesShort, isControlPlan, ramped, rampOf, rampLength, latestAll}
 use Rattle.model.specs.NoteCalls.{voiceRow, Note, noteOnRows, notedOn, noteOffRows, releasedTo, voiceEndedRows, ended, noteOn, noteOff, voiceEnded}
-use Rattle.model.specs.Calls.{Call, held-set, voice-held-set, base-set, amount-set, output-set, limit-set, note-on, note-off, voice-ended, swap, block, program-memory, engine-memory, read, Runner, onWorld, programAt, called, codeOf, rowsOf}
+use Rattle.model.specs.Calls.{Call, block, other, Other, set-held, set-voice-held, set-base, set-amount, set-output, set-limit, set-draw, start-note, release-note, end-voice, install, lend-program, lend-engine, look, Runner, onWorld, programAt, effectOf, called, codeOf, callRows}
 
 -- the number of a call is what its rows say
-pub code-judged : (c : Call) (r : Runner) → codeOf c r ≡ judged (rowsOf c r)
-unfolding setHeld setVoiceHeld setBase setAmount setOutput setVoiceLimit noteOn noteOff voiceEnded swapProgram process doneBy judged
-code-judged (held-set i x) r = refl
-code-judged (voice-held-set i v x) r = refl
-code-judged (base-set d x) r = refl
-code-judged (amount-set n x) r = refl
-code-judged (output-set n x) r = refl
-code-judged (limit-set n) r = refl
-code-judged (note-on v n) r = refl
-code-judged (note-off v x) r = refl
-code-judged (voice-ended v) r = refl
-code-judged (swap k) r = refl
+effect-judged : (o : Other) (r : Runner) → effectOf o r .code ≡ judged (effectOf o r .rows)
+unfolding setHeld setVoiceHeld setBase setAmount setOutput setVoiceLimit setDraw noteOn noteOff voiceEnded swapProgram doneBy judged
+effect-judged (set-held i x) r = refl
+effect-judged (set-voice-held i v x) r = refl
+effect-judged (set-base d x) r = refl
+effect-judged (set-amount n x) r = refl
+effect-judged (set-output n x) r = refl
+effect-judged (set-limit n) r = refl
+effect-judged (set-draw x) r = refl
+effect-judged (start-note v n) r = refl
+effect-judged (release-note v x) r = refl
+effect-judged (end-voice v) r = refl
+effect-judged (install k) r = refl
+effect-judged (lend-program k values audio tables) r = refl
+effect-judged (lend-engine held globals bases) r = refl
+effect-judged look r = refl
+
+pub code-judged : (c : Call) (r : Runner) → codeOf c r ≡ judged (callRows c r)
+unfolding process judged
 code-judged (block samples signals start end) r = refl
-code-judged (program-memory k values audio tables) r = refl
-code-judged (engine-memory held globals bases) r = refl
-code-judged read r = refl
+code-judged (other o) r = effect-judged o r
 
 -- the first row that applies
-pub code-first : (c : Call) (r : Runner) → codeOf c r ≢ 0 → First (rowsOf c r) (codeOf c r)
-code-first c r h = judged-first (rowsOf c r) (codeOf c r) (sym (code-judged c r)) h
+pub code-first : (c : Call) (r : Runner) → codeOf c r ≢ 0 → First (callRows c r) (codeOf c r)
+code-first c r h = judged-first (callRows c r) (codeOf c r) (sym (code-judged c r)) h
 
 -- a call whose rows are judged and whose next world is taken where they accept
 abbrev Judged : Done → World → Type 0
@@ -83,6 +88,10 @@ module _ (w : World) where
   unfolding setVoiceLimit
   limit-refused n h = done-refused [] w (putState w (withLimit (w .state) (max n 1))) h
 
+  draw-refused : (x : ℕ) → Judged (setDraw w x) w
+  unfolding setDraw
+  draw-refused x h = done-refused [] w (putState w (withDraw (w .state) x)) h
+
   note-on-refused : (v : ℕ) (n : Note) → Judged (noteOn w v n) w
   unfolding noteOn
   note-on-refused v n h = done-refused (noteOnRows w v n) w (notedOn v n w) h
@@ -100,21 +109,25 @@ module _ (w : World) where
   block-refused samples signals start end h = simp (ne-eqb (judged (processRows w samples signals end)) 0 h)
 
 -- nothing changes
+effect-refused : (o : Other) (r : Runner) → effectOf o r .code ≢ 0 → effectOf o r .left ≡ r
+effect-refused (set-held i x) r h = ap (onWorld r) (held-refused (r .world) i x h)
+effect-refused (set-voice-held i v x) r h = ap (onWorld r) (voice-held-refused (r .world) i v x h)
+effect-refused (set-base d x) r h = ap (onWorld r) (base-refused (r .world) d x h)
+effect-refused (set-amount n x) r h = ap (onWorld r) (amount-refused (r .world) n x h)
+effect-refused (set-output n x) r h = ap (onWorld r) (output-refused (r .world) n x h)
+effect-refused (set-limit n) r h = ap (onWorld r) (limit-refused (r .world) n h)
+effect-refused (set-draw x) r h = ap (onWorld r) (draw-refused (r .world) x h)
+effect-refused (start-note v n) r h = ap (onWorld r) (note-on-refused (r .world) v n h)
+effect-refused (release-note v x) r h = ap (onWorld r) (note-off-refused (r .world) v x h)
+effect-refused (end-voice v) r h = ap (onWorld r) (ended-refused (r .world) v h)
+effect-refused (install k) r h = simp (ne-eqb (swapProgram (r .world .state) (programAt r k) .code) 0 h)
+effect-refused (lend-program k values audio tables) r h = absurd (h refl)
+effect-refused (lend-engine held globals bases) r h = absurd (h refl)
+effect-refused look r h = absurd (h refl)
+
 pub refused-leaves : (c : Call) (r : Runner) → codeOf c r ≢ 0 → called c r ≡ r
-refused-leaves (held-set i x) r h = ap (onWorld r) (held-refused (r .world) i x h)
-refused-leaves (voice-held-set i v x) r h = ap (onWorld r) (voice-held-refused (r .world) i v x h)
-refused-leaves (base-set d x) r h = ap (onWorld r) (base-refused (r .world) d x h)
-refused-leaves (amount-set n x) r h = ap (onWorld r) (amount-refused (r .world) n x h)
-refused-leaves (output-set n x) r h = ap (onWorld r) (output-refused (r .world) n x h)
-refused-leaves (limit-set n) r h = ap (onWorld r) (limit-refused (r .world) n h)
-refused-leaves (note-on v n) r h = ap (onWorld r) (note-on-refused (r .world) v n h)
-refused-leaves (note-off v x) r h = ap (onWorld r) (note-off-refused (r .world) v x h)
-refused-leaves (voice-ended v) r h = ap (onWorld r) (ended-refused (r .world) v h)
-refused-leaves (swap k) r h = simp (ne-eqb (swapProgram (r .world .state) (programAt r k) .code) 0 h)
 refused-leaves (block samples signals start end) r h = ap (onWorld r) (block-refused (r .world) samples signals start end h)
-refused-leaves (program-memory k values audio tables) r h = absurd (h refl)
-refused-leaves (engine-memory held globals bases) r h = absurd (h refl)
-refused-leaves read r h = absurd (h refl)
+refused-leaves (other o) r h = effect-refused o r h
 
 -- ---- the calls that make an engine, bind a signal, or write what is read
 
@@ -153,13 +166,13 @@ module _ (st : State) (values : List Float) where
       go (no ne) = simp (ne-eqb code 0 ne)
 
 -- what a reader answers: the number of its rows
-pub reading-judged : (rows : List Row) (b : Bool) (x : Float) → readingNumber (readBy rows b x) ≡ judged rows
+pub reading-judged : (rows : List Row) (b : Bool) (x : Float) → readingNumber (readingBy rows b x) ≡ judged rows
 reading-judged rows b x = go (ℕ-discrete (judged rows) 0)
   where
     there : (b ≡ true) ⊎ (b ≡ false) → readingNumber (cond b (R.Value x) R.Nothing) ≡ 0
     there (inl t) = rw t refl
     there (inr t) = rw t refl
 
-    go : Dec (judged rows ≡ 0) → readingNumber (readBy rows b x) ≡ judged rows
+    go : Dec (judged rows ≡ 0) → readingNumber (readingBy rows b x) ≡ judged rows
     go (yes e) = simp (eq-eqb (judged rows) 0 e) (there (which b) ∙ sym e)
     go (no ne) = simp (ne-eqb (judged rows) 0 ne)

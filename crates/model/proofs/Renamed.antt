@@ -36,10 +36,10 @@ use Rattle.model.specs.Env.{Env, Rows, Own}
 use Rattle.model.specs.Mix.{Mix}
 use Rattle.model.specs.Input.{readIn, inputIn}
 use Rattle.model.specs.Lanes.{Lane, lane, nowhere}
-use Rattle.model.specs.RouteValue.{sourceIn, sourced, withAux, gainIn, gained, routeValue, idle, rowed, plain}
+use Rattle.model.specs.RouteValue.{sourceIn, sourced, withAux, gainIn, gained, routeValue, idle, wholeRow, plain}
 use Rattle.model.specs.Sums.{baseIn, offsets, somePlain, plains, hasPlain, addLane, others, begun, tickSum}
 use Rattle.model.specs.Slews.{movesIn, auxSlew, sourceAfter, auxAfter}
-use Rattle.model.specs.Tick.{widthOf, heldSum, newTo, newFrom}
+use Rattle.model.specs.Tick.{mixWidth, heldSum, newTo, newFrom}
 use Rattle.model.specs.Rule.{fedFrom, slotOf, slotRoute}
 
 module _ (os : List ℕ) where
@@ -166,7 +166,7 @@ module _ (os : List ℕ) where
     gain-in l live G.Live = refl
     gain-in l live (G.Fed e v) = refl
 
-    rowed-in : (r : Read) → rowed t (placedRead r) ≡ rowed t r
+    rowed-in : (r : Read) → wholeRow t (placedRead r) ≡ wholeRow t r
     rowed-in (D.Signal i true) = refl
     rowed-in (D.Signal i false) = refl
     rowed-in (D.Held i v) = refl
@@ -322,5 +322,5 @@ module _ (w : Wiring) (os : List ℕ) where
     unfolding auxAfter
     aux-placed j l h = ap (λ (r : Route). auxSlew t x f s j (x .route j) l (r .aux)) (route-at j h) ∙ aux-slew-at j l h (y .route j .aux)
 
-    pub width-placed : widthOf t x ≡ widthOf t y
+    pub width-placed : mixWidth t x ≡ mixWidth t y
     width-placed = rw (p .voice)

@@ -28,7 +28,7 @@ use Rattle.model.specs.Layout.{planWidth}
 use Rattle.model.specs.Env.{Env, Rows, Own}
 use Rattle.model.specs.Mix.{Mix, planMix}
 use Rattle.model.specs.Slews.{sourceAfter, auxAfter}
-use Rattle.model.specs.Tick.{widthOf, newTo, newFrom, lanesFrom, fromStart, toStart, ownStart, rowsOf, ownOf, turns, tickOf}
+use Rattle.model.specs.Tick.{mixWidth, newTo, newFrom, lanesFrom, fromStart, toStart, ownStart, rowsOf, ownOf, turns, tickOf}
 use Rattle.model.specs.Process.{valuesOf}
 use Rattle.model.specs.Outputs.{planPlace}
 use Rattle.model.specs.Rule.{Values, slotOf, slotRoute, slotsInto, slotInto, destMix, lanesOf, ownsOf, seen, ruled, Meets, Rule, Barred, Unbarred}
@@ -130,7 +130,7 @@ module _ (w : Wiring) (slotted : length (w .matrix .slot) ≡ slots) (st : State
               );
         }
 
-    lanes-plan : lanesOf w t d ≡ widthOf t (planMix st (place d))
+    lanes-plan : lanesOf w t d ≡ mixWidth t (planMix st (place d))
     lanes-plan = sym (width-placed w (planOrder w) t (v .to) (ownsOf w v d) (planMix st (place d)) (destMix w d) placed)
 
     lane-below : (l : ℕ) → l < lanesOf w t d → l < strideOf st
@@ -331,11 +331,11 @@ module _ (w : Wiring) (slotted : length (w .matrix .slot) ≡ slots) (st : State
     plan-place : (i : ℕ) → i < last → place (planAt st i .dest) ≡ i
     plan-place i h = control-dest w slotted st is i h .1
 
-    plan-lanes : (i : ℕ) (h : i < last) (l : ℕ) → l < widthOf t (planMix st i) → l < lanesOf w t (planAt st i .dest)
+    plan-lanes : (i : ℕ) (h : i < last) (l : ℕ) → l < mixWidth t (planMix st i) → l < lanesOf w t (planAt st i .dest)
     plan-lanes i h l k =
         let e = lanes-plan (planAt st i .dest) (plan-control i h) in
         let p = plan-place i h in
-        subst (λ (n : ℕ). l < n) (sym (e ∙ ap (λ (n : ℕ). widthOf t (planMix st n)) p)) k
+        subst (λ (n : ℕ). l < n) (sym (e ∙ ap (λ (n : ℕ). mixWidth t (planMix st n)) p)) k
 
     plan-count : (i : ℕ) (h : i < last) → planAt st i .count ≡ length (slotsInto w (planAt st i .dest))
     plan-count i h =

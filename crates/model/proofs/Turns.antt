@@ -17,7 +17,7 @@ use Rattle.model.specs.Mix.{planMix}
 use Rattle.model.specs.Layout.{planWidth, planSize, planFrom, planTo, routeSlew, Sizes, ofPlan, ofRoute}
 use Rattle.model.specs.Layout as L
 use Rattle.model.specs.Slews.{sourceAfter, auxAfter}
-use Rattle.model.specs.Tick.{widthOf, newTo, newFrom, fillFrom, lanesFrom, fromStart, toStart, ownStart, rowsOf, ownOf, putSlews, slewAfter, putPlan, turn, turns, tickOf}
+use Rattle.model.specs.Tick.{mixWidth, newTo, newFrom, fillFrom, lanesFrom, fromStart, toStart, ownStart, rowsOf, ownOf, putSlews, slewAfter, putPlan, turn, turns, tickOf}
 use Rattle.model.specs.Process.{valuesOf}
 use Rattle.model.specs.Rule.{Values}
 use Rattle.model.specs.Model.{written}
@@ -303,10 +303,10 @@ own-inside : (st : State) {r q : ℕ} → r < routeTotal (st .program) → q < 2
 own-inside st {r} {q} h b = parts-inside (wholeRows st) (stride-least (voiceCount st)) (ofRoute r (L.slew q)) (h, b)
 
 -- the widths of a plan in a tick and in the model
-same-width : (st : State) (t : Env) → t .stride ≡ strideOf st → (d : ℕ) → widthOf t (planMix st d) ≡ planWidth (strideOf st) (planAt st d .voice)
+same-width : (st : State) (t : Env) → t .stride ≡ strideOf st → (d : ℕ) → mixWidth t (planMix st d) ≡ planWidth (strideOf st) (planAt st d .voice)
 same-width st t same d = ap (λ (s : ℕ). planWidth s (planAt st d .voice)) same
 
-width-fits : (st : State) (t : Env) → t .stride ≡ strideOf st → (d : ℕ) → widthOf t (planMix st d) ≤ strideOf st
+width-fits : (st : State) (t : Env) → t .stride ≡ strideOf st → (d : ℕ) → mixWidth t (planMix st d) ≤ strideOf st
 width-fits st t same d = rw (same-width st t same d) (width-most (strideOf st) (planAt st d .voice) (stride-least (voiceCount st)))
 
 module _ (st : State) (t : Env) (phase : ℕ) where
@@ -320,7 +320,7 @@ module _ (st : State) (t : Env) (phase : ℕ) where
   abbrev ownBy : ℕ → List Float → Own
   ownBy d m = slewAfter t (planMix st d) (rowsOf st m) (ownOf st m d)
 
-  turn-is : (d : ℕ) (m : List Float) → turn st t phase d m ≡ putPlan st d (widthOf t (planMix st d)) (toBy d m) (fromBy d m) (ownBy d m) m
+  turn-is : (d : ℕ) (m : List Float) → turn st t phase d m ≡ putPlan st d (mixWidth t (planMix st d)) (toBy d m) (fromBy d m) (ownBy d m) m
   unfolding turn
   turn-is d m = refl
 
@@ -329,7 +329,7 @@ module _ (st : State) (t : Env) (phase : ℕ) (m : List Float) (laid : Laid st) 
   after k = turns st t phase k m
 
   abbrev widthAt : ℕ → ℕ
-  widthAt d = widthOf t (planMix st d)
+  widthAt d = mixWidth t (planMix st d)
 
   next : (k : ℕ) → after (suc k) ≡ putPlan st k (widthAt k) (toBy st t phase k (after k)) (fromBy st t phase k (after k)) (ownBy st t phase k (after k)) (after k)
   unfolding turns
@@ -432,7 +432,7 @@ module _ (st : State) (t : Env) (phase : ℕ) (m : List Float) (laid : Laid st) 
 
   -- ---- AFTER ITS TURN it has what its turn made of the values as they then were
 
-  pub to-done : (k i l : ℕ) → i < k → k ≤ controlTotal (st .program) → l < widthOf t (planMix st i)
+  pub to-done : (k i l : ℕ) → i < k → k ≤ controlTotal (st .program) → l < mixWidth t (planMix st i)
       → at (turns st t phase k m) (toStart st i + l)
       ≡ newTo t phase (planMix st i) (rowsOf st (turns st t phase i m)) (ownOf st (turns st t phase i m) i) (rowsOf st (turns st t phase i m) i) l
   to-done k i l h b x =
@@ -445,7 +445,7 @@ module _ (st : State) (t : Env) (phase : ℕ) (m : List Float) (laid : Laid st) 
       ∙ put-to st i (widthAt i) (toBy st t phase i v) (fromBy st t phase i v) (ownBy st t phase i v) v (control-plan st c) (width-fits st t same i) l x
       (rw (turns-length i) (lt-of-lt-of-le (in-to (strideOf st) (chunksMost st) i l e .1) (le-trans (to-inside st (control-plan st c)) room)))
 
-  pub from-done : (k i l : ℕ) → i < k → k ≤ controlTotal (st .program) → l < widthOf t (planMix st i)
+  pub from-done : (k i l : ℕ) → i < k → k ≤ controlTotal (st .program) → l < mixWidth t (planMix st i)
       → at (turns st t phase k m) (fromStart st i + l)
       ≡ newFrom t phase (planMix st i) (rowsOf st (turns st t phase i m)) (ownOf st (turns st t phase i m) i) (rowsOf st (turns st t phase i m) i)
       (lanesFrom (turns st t phase i m) (fromStart st i)) l
@@ -482,7 +482,7 @@ module _ (st : State) (t : Env) (phase : ℕ) (m : List Float) (laid : Laid st) 
   aux-done k i j l h b e x = own-done k i j 1 l h b e (omega arith) x
 
   -- the lanes of a row beyond the width are as they were
-  pub to-beyond : (k i l : ℕ) → i < controlTotal (st .program) → widthOf t (planMix st i) ≤ l → l < strideOf st
+  pub to-beyond : (k i l : ℕ) → i < controlTotal (st .program) → mixWidth t (planMix st i) ≤ l → l < strideOf st
       → at (turns st t phase k m) (toStart st i + l) ≡ at m (toStart st i + l)
   to-beyond k i l h b x =
       turns-off-all k (toStart st i + l) (λ d y. elim (ℕ-discrete d i) [
@@ -504,8 +504,8 @@ module _ (st : State) (t : Env) (phase : ℕ) (m : List Float) (laid : Laid st) 
   -- ---- THE TICK WRITES what u has for each control plan, where u has what the tick leaves there
 
   module _ (u : Values)
-      (a : (i l : ℕ) → i < controlTotal (st .program) → l < widthOf t (planMix st i) → u .to (planAt st i .dest) l ≡ at (tickOf st t phase m) (toStart st i + l))
-      (b : (i l : ℕ) → i < controlTotal (st .program) → l < widthOf t (planMix st i) → u .from (planAt st i .dest) l ≡ at (tickOf st t phase m) (fromStart st i + l))
+      (a : (i l : ℕ) → i < controlTotal (st .program) → l < mixWidth t (planMix st i) → u .to (planAt st i .dest) l ≡ at (tickOf st t phase m) (toStart st i + l))
+      (b : (i l : ℕ) → i < controlTotal (st .program) → l < mixWidth t (planMix st i) → u .from (planAt st i .dest) l ≡ at (tickOf st t phase m) (fromStart st i + l))
       (c : (i j q l : ℕ) → i < controlTotal (st .program) → j < planAt st i .count → q < 2 → l < strideOf st
       → u .own (routeAt st (planAt st i .first + j) .slot) q l ≡ at (tickOf st t phase m) (ownStart st (planAt st i .first + j) q + l)) where
     first-written : (k : ℕ) → k ≤ controlTotal (st .program) → turns st t phase k m ≡ written st u k m

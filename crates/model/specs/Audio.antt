@@ -15,7 +15,7 @@ use Rattle.model.specs.Lanes.{inSpan}
 use Rattle.model.specs.Layout.{planWidth, audioRow}
 use Rattle.model.specs.Sums.{hasPlain, allPlain, audioSum}
 use Rattle.model.specs.Slews.{sourceAfter, auxAfter}
-use Rattle.model.specs.Tick.{widthOf, fillFrom, lanesFrom, rowsOf, ownOf, putSlews, slewAfter}
+use Rattle.model.specs.Tick.{mixWidth, fillFrom, lanesFrom, rowsOf, ownOf, putSlews, slewAfter}
 
 -- "In audio two infinite bounds hold nothing" (engine.rs 948-949)
 abbrev pub bounded : Mix → Bool
@@ -55,7 +55,7 @@ audioFrame st t d m =
     let a = rowStart st d (t .frame) in
     record {
       values = putSlews st d (slewAfter t x f s) (planAt st d .count) (m .values);
-      audio = fillFrom (m .audio) a (newAudio t x f s (lanesFrom (m .audio) a)) (widthOf t x);
+      audio = fillFrom (m .audio) a (newAudio t x f s (lanesFrom (m .audio) a)) (mixWidth t x);
     }
 
 -- t at frame k of a chunk that ends at `end`: fresh lanes snap at the chunk's first frame

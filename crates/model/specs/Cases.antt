@@ -42,7 +42,7 @@ use Rattle.state.specs.declared.Chunk.{Chunk}
 use Rattle.model.specs.Plans.{plansOf, compiled}
 use Rattle.model.specs.Counts.{at}
 use Rattle.model.specs.Chunks.{chunkList}
-use Rattle.model.specs.Outputs.{fromStart, toStart}
+use Rattle.model.specs.Outputs.{fromPlace, toPlace}
 use Rattle.model.specs.Calls.{Call, base-set, note-on, voice-ended, swap, block, Runner, keptOf, startOf, run}
 
 pub record Case : Type 0 where
@@ -88,7 +88,7 @@ abbrev pub dest : ℕ → Feed → Dest
 dest n f = record { target = G.Param n; scope = S.Global; rate = T.Control; min = zero32; max = one32; feed = f }
 
 -- from source i to parameter n
-abbrev slot : ℕ → ℕ → Float → Polarity → Slot
+abbrev pub slot : ℕ → ℕ → Float → Polarity → Slot
 slot i n amount p =
     record {
       source = P.Source i;
@@ -200,7 +200,7 @@ abbrev printedChunk : Runner → ℕ → Chunk → List ℕ
 printedChunk r i c =
     let st = r .world .state in
     c .start ∷ c .len ∷ c .phase ∷ cond (c .tick) 1 0 ∷ bits
-    (at (r .world .values) (fromStart st 0 i) ∷ at (r .world .values) (toStart st 0 i) ∷ [])
+    (at (r .world .values) (fromPlace st 0 i) ∷ at (r .world .values) (toPlace st 0 i) ∷ [])
 
 abbrev printedFrom : Runner → ℕ → List Chunk → List ℕ
 printedFrom r i [] = []
@@ -209,7 +209,7 @@ printedFrom r i (c ∷ cs) = printedChunk r i c ++ printedFrom r (suc i) cs
 abbrev printed : Runner → List ℕ
 printed r = printedFrom r 0 (chunkList (r .world .state .block))
 
-abbrev constant : Wiring
+abbrev pub constant : Wiring
 constant =
     record {
       matrix = record {
@@ -227,10 +227,10 @@ constant =
 abbrev started : Runner
 started = startOf (constant .sources) (constant .dests) (constant .config) (keptOf constant [] ∷ [])
 
-abbrev quarter : Call
+abbrev pub quarter : Call
 quarter = base-set 0 (fin false 1 (negsuc 1))
 
-abbrev over : ℕ → ℕ → Call
+abbrev pub over : ℕ → ℕ → Call
 over start end = block [] (record { part = [] }) start end
 
 -- "range 0 to 64": twice 0.75 to 0.75
@@ -244,7 +244,7 @@ case5 =
 
 -- "Range 0 to 5 with no program; note on, voice ended; swap in case 5; range 0 to 27: one tick at phase 5, 0.75 to
 -- 0.75. Without the note: no tick, 0 to 0."
-abbrev note : Call
+abbrev pub note : Call
 note = note-on 0 (record { key = zero32; velocity = one32; legato = false; glide-seconds = zero32 })
 
 unfoldable pub case10 : Case

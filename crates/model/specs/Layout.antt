@@ -121,7 +121,7 @@ pub data RoutePart : Type 0 where
 pub data Part : Memory → Type 0 where
   ofPlan : ℕ → PlanPart → Part values
   ofRoute : ℕ → RoutePart → Part values
-  atFrame : ℕ → ℕ → Part audio
+  ofFrame : ℕ → ℕ → Part audio
 
 -- a chunk that there is, and a position
 abbrev pub ValidOfPlan : ℕ → PlanPart → Type 0
@@ -136,29 +136,29 @@ ValidOfRoute (random p) = p < 2
 
 module _ (z : Sizes) where
   -- the width of plan i
-  abbrev pub widthOf : ℕ → ℕ
-  widthOf i = planWidth (z .stride) (z .voice i)
+  abbrev pub rowWidth : ℕ → ℕ
+  rowWidth i = planWidth (z .stride) (z .voice i)
 
   -- where a part starts, and how many numbers it has
   abbrev pub start : {m : Memory} → Part m → ℕ
   start (ofPlan i from) = planFrom (z .stride) (z .chunks) i
   start (ofPlan i to) = planTo (z .stride) (z .chunks) i
-  start (ofPlan i (fromAt c)) = chunkFrom (z .stride) (z .chunks) i (widthOf i) c
-  start (ofPlan i (toAt c)) = chunkTo (z .stride) (z .chunks) i (widthOf i) c
+  start (ofPlan i (fromAt c)) = chunkFrom (z .stride) (z .chunks) i (rowWidth i) c
+  start (ofPlan i (toAt c)) = chunkTo (z .stride) (z .chunks) i (rowWidth i) c
   start (ofRoute r (slew p)) = routeSlew (z .stride) (z .chunks) (z .plans) r p
   start (ofRoute r (random p)) = routeRandom (z .stride) (z .chunks) (z .plans) r p
-  start (atFrame i k) = audioRow (z .stride) (z .frames) i (widthOf i) k
+  start (ofFrame i k) = audioRow (z .stride) (z .frames) i (rowWidth i) k
 
   abbrev pub width : {m : Memory} → Part m → ℕ
-  width (ofPlan i q) = widthOf i
+  width (ofPlan i q) = rowWidth i
   width (ofRoute r q) = z .stride
-  width (atFrame i k) = widthOf i
+  width (ofFrame i k) = rowWidth i
 
   -- there is such a part
   abbrev pub Valid : {m : Memory} → Part m → Type 0
   Valid (ofPlan i q) = (i < z .plans) × ValidOfPlan (z .chunks) q
   Valid (ofRoute r q) = (r < z .routes) × ValidOfRoute q
-  Valid (atFrame i k) = (i < z .plans) × (k < z .frames)
+  Valid (ofFrame i k) = (i < z .plans) × (k < z .frames)
 
   -- one ends at or before the other starts
   abbrev pub Apart : {m : Memory} → Part m → Part m → Type 0
@@ -174,6 +174,6 @@ small-starts = (refl, refl, refl, refl)
 
 -- the last parts, and the needs: four spare rows stand behind the last of a route
 small-ends : (start small (ofRoute 1 (random 1)) + width small (ofRoute 1 (random 1)) + 4 * 16 ≡ need small values)
-    × (need small values ≡ 928) × (start small (atFrame 1 63) + width small (atFrame 1 63) ≡ 2048)
+    × (need small values ≡ 928) × (start small (ofFrame 1 63) + width small (ofFrame 1 63) ≡ 2048)
     × (need small audio ≡ 3072)
 small-ends = (refl, refl, refl, refl)

@@ -20,11 +20,9 @@ use Rattle.model.specs.Env.{Env}
 use Rattle.model.specs.Tick.{lanesFrom, fromStart, toStart, ownStart, putPlan, fillFrom, putSlews, tickOf}
 use Rattle.model.specs.Chunks.{chunkTotal, chunkOf}
 use Rattle.model.specs.World.{World}
-use Rattle.model.specs.Process.{envOf, snapOf, primedWith, afterTick, blockOf, loaded, drawn, closed, process}
+use Rattle.model.specs.Process.{envOf, snapAt, primedWith, afterTick, blockOf, loaded, drawn, closed, process}
 use Rattle.model.specs.Outputs.{planPlace}
-use Rattle.model.specs.Calls.{Call, held-set, voice-held-set, base-set, amount-set, output-set, limit-set}
-use Rattle.model.specs.Calls.{note-on, note-off, voice-ended, swap, block, program-memory, engine-memory, read}
-use Rattle.model.specs.Calls.{Runner, onWorld, called}
+use Rattle.model.specs.Calls.{Call, block, other, Runner, onWorld, effectOf}
 use Rattle.model.specs.Rule.{Values, Rule, Barred, Unbarred}
 
 -- ---- where the numbers of a destination and of a slot lie in the lent values: the one link between the rule and a
@@ -65,10 +63,10 @@ pub data Ticks (w : Wiring) (st : State) (t : Env) (phase : ℕ) (m n : List Flo
 -- ---- a block, chunk after chunk
 
 pub data Steps (w : Wiring) (samples : List Float) (signals : Signals) (i : ℕ) (c : Chunk) (u v : World) : Type 0 where
-  still : c .tick ≡ false → v ≡ afterTick samples signals i c (snapOf i u) u → Steps w samples signals i c u v
-  ticks : c .tick ≡ true → (m : List Float) → Ticks w (u .state) (envOf u samples signals c (snapOf i u)) (c .phase)
+  still : c .tick ≡ false → v ≡ afterTick samples signals i c (snapAt i u) u → Steps w samples signals i c u v
+  ticks : c .tick ≡ true → (m : List Float) → Ticks w (u .state) (envOf u samples signals c (snapAt i u)) (c .phase)
       (u .values) m
-      → v ≡ afterTick samples signals i c (snapOf i u) (primedWith u m) → Steps w samples signals i c u v
+      → v ≡ afterTick samples signals i c (snapAt i u) (primedWith u m) → Steps w samples signals i c u v
 
 -- the first n chunks
 pub data Chunks (w : Wiring) (samples : List Float) (signals : Signals) (b : Block) : ℕ → World → World → Type 0 where
@@ -97,21 +95,10 @@ pub record Rendered (names : ℕ → Wiring) (samples : List Float) (signals : S
   pub blocks : Blocks (names (r .installed)) samples signals start end (r .world) after
   pub same : q ≡ onWorld r after
 
+-- a block meets the rule at each tick; any other call does as the definitions say
 abbrev pub Does : (ℕ → Wiring) → Call → Runner → Runner → Type 0
-Does names (held-set i x) r q = q ≡ called (held-set i x) r
-Does names (voice-held-set i v x) r q = q ≡ called (voice-held-set i v x) r
-Does names (base-set d x) r q = q ≡ called (base-set d x) r
-Does names (amount-set n x) r q = q ≡ called (amount-set n x) r
-Does names (output-set n x) r q = q ≡ called (output-set n x) r
-Does names (limit-set n) r q = q ≡ called (limit-set n) r
-Does names (note-on v n) r q = q ≡ called (note-on v n) r
-Does names (note-off v x) r q = q ≡ called (note-off v x) r
-Does names (voice-ended v) r q = q ≡ called (voice-ended v) r
-Does names (swap k) r q = q ≡ called (swap k) r
 Does names (block samples signals start end) r q = Rendered names samples signals start end r q
-Does names (program-memory k values audio tables) r q = q ≡ called (program-memory k values audio tables) r
-Does names (engine-memory held globals bases) r q = q ≡ called (engine-memory held globals bases) r
-Does names read r q = q ≡ called read r
+Does names (other o) r q = q ≡ effectOf o r .left
 
 -- A RUN OF THE MODEL over a list of calls, from r to q
 pub data Models (names : ℕ → Wiring) : List Call → Runner → Runner → Type 0 where

@@ -70,8 +70,8 @@ abbrev pub writtenAt : State → (Kind → Bool) → Notes → ℕ → Float →
 writtenAt st p old v target time m = cond (glidesTo (valueOf old v) target time) m (heldOf st p v target m)
 
 -- sounding, renoted, and fresh unless legato
-abbrev pub begun : ℕ → Note → World → World
-begun v n w =
+abbrev pub noteBegun : ℕ → Note → World → World
+noteBegun v n w =
     putState w (withMarks (withVoices (w .state) (soundedOn (w .state .voices) v))
     (marksOn (w .state .marks) v (n .legato)))
 
@@ -146,7 +146,7 @@ releasedTo v x w = putHeld w (heldOf (w .state) isRelease v x (w .held))
 abbrev pub notedOn : ℕ → Note → World → World
 notedOn v n w =
     releasedTo v zero32 (alternated v
-    (randomsSet v (engineSources (w .state)) (keySet v n (velocitySet v n (begun v n w)))))
+    (randomsSet v (engineSources (w .state)) (keySet v n (velocitySet v n (noteBegun v n w)))))
 
 -- ---- the calls
 

@@ -134,48 +134,48 @@ unfolding part judged
 framePart st audio d k =
     partBy (audioPartRows st audio) (isAudioPlan st d && ltb k (frameCount st)) audio (audioStart st d k) (widthOf st d)
 
-abbrev pub fromStart : State → ℕ → ℕ → ℕ
-fromStart st d c = chunkFrom (strideOf st) (chunksMost st) (planPlace st d) (widthOf st d) c
+abbrev pub fromPlace : State → ℕ → ℕ → ℕ
+fromPlace st d c = chunkFrom (strideOf st) (chunksMost st) (planPlace st d) (widthOf st d) c
 
-abbrev pub toStart : State → ℕ → ℕ → ℕ
-toStart st d c = chunkTo (strideOf st) (chunksMost st) (planPlace st d) (widthOf st d) c
+abbrev pub toPlace : State → ℕ → ℕ → ℕ
+toPlace st d c = chunkTo (strideOf st) (chunksMost st) (planPlace st d) (widthOf st d) c
 
 unfoldable pub fromPart : State → List Float → ℕ → Parted
 unfolding part judged chunkTotal
 fromPart st values d =
     let n = chunkTotal (st .block) * widthOf st d in
-    partBy (valuesPartRows st values) (isControlPlan st d) values (fromStart st d 0) n
+    partBy (valuesPartRows st values) (isControlPlan st d) values (fromPlace st d 0) n
 
 unfoldable pub toPart : State → List Float → ℕ → Parted
 unfolding part judged chunkTotal
 toPart st values d =
     let n = chunkTotal (st .block) * widthOf st d in
-    partBy (valuesPartRows st values) (isControlPlan st d) values (toStart st d 0) n
+    partBy (valuesPartRows st values) (isControlPlan st d) values (toPlace st d 0) n
 
 -- ---- single numbers
 
 -- a number by the rows that judge the call, and whether there is one
-abbrev pub readBy : List Row → Bool → Float → Reading
-readBy rows b x = cond (eqb (judged rows) 0) (cond b (R.Value x) R.Nothing) (R.Refused (judged rows))
+abbrev pub readingBy : List Row → Bool → Float → Reading
+readingBy rows b x = cond (eqb (judged rows) 0) (cond b (R.Value x) R.Nothing) (R.Refused (judged rows))
 
 abbrev pub audioNumber : State → List Float → ℕ → ℕ → ℕ → Float
 audioNumber st audio d k v = at audio (audioStart st d k + laneOf st d v)
 
 abbrev pub toNumber : State → List Float → ℕ → ℕ → ℕ → Float
-toNumber st values d c v = at values (toStart st d c + laneOf st d v)
+toNumber st values d c v = at values (toPlace st d c + laneOf st d v)
 
 -- engine.rs 129-132
 unfoldable pub audioAt : State → List Float → ℕ → ℕ → ℕ → Reading
 unfolding judged
 audioAt st audio d k v =
-    readBy (voiceRow st v ∷ 14 when audioShort st audio ∷ []) (isAudioPlan st d && ltb k (frameCount st))
+    readingBy (voiceRow st v ∷ 14 when audioShort st audio ∷ []) (isAudioPlan st d && ltb k (frameCount st))
     (audioNumber st audio d k v)
 
 -- engine.rs 167-170
 unfoldable pub controlValue : State → List Float → ℕ → ℕ → ℕ → Reading
 unfolding judged chunkTotal
 controlValue st values d c v =
-    readBy (voiceRow st v ∷ 14 when valuesShort st values ∷ []) (isControlPlan st d && ltb c (chunkTotal (st .block)))
+    readingBy (voiceRow st v ∷ 14 when valuesShort st values ∷ []) (isControlPlan st d && ltb c (chunkTotal (st .block)))
     (toNumber st values d c v)
 
 -- the number after the last chunk, or at its last frame (engine.rs 642-656)
@@ -193,7 +193,7 @@ hasLatest st d = hasPlan st d && ltb 0 (chunkTotal (st .block))
 unfoldable pub latestOf : State → List Float → List Float → ℕ → ℕ → Reading
 unfolding judged chunkTotal
 latestOf st values audio d v =
-    readBy (voiceRow st v ∷ 14 when (valuesShort st values || audioShort st audio) ∷ []) (hasLatest st d)
+    readingBy (voiceRow st v ∷ 14 when (valuesShort st values || audioShort st audio) ∷ []) (hasLatest st d)
     (latestNumber st values audio d v)
 
 -- ---- every destination's latest number (engine.rs 667-690)
@@ -240,7 +240,7 @@ rampFrom from to j (suc n) = rampAt from to j ∷ rampFrom from to (suc j) n
 
 abbrev pub rampChunk : State → List Float → ℕ → ℕ → ℕ → Chunk → List Float
 rampChunk st values d v i c =
-    rampFrom (at values (fromStart st d i + laneOf st d v)) (toNumber st values d i v) (c .phase) (c .len)
+    rampFrom (at values (fromPlace st d i + laneOf st d v)) (toNumber st values d i v) (c .phase) (c .len)
 
 abbrev pub rampChunks : State → List Float → ℕ → ℕ → ℕ → List Chunk → List Float
 rampChunks st values d v i [] = []

@@ -168,8 +168,8 @@ envOf w samples signals c snap =
     }
 
 -- fresh lanes snap in the first chunk
-abbrev pub snapOf : ℕ → World → Bool
-snapOf i w = eqb i 0 && w .state .marks .«any_fresh»
+abbrev pub snapAt : ℕ → World → Bool
+snapAt i w = eqb i 0 && w .state .marks .«any_fresh»
 
 -- control values change at a tick, and the program is then primed
 abbrev pub primedWith : World → List Float → World
@@ -212,7 +212,7 @@ afterTick samples signals i c snap w = glided (c .len) (sounded samples signals 
 unfoldable pub chunkStep : List Float → Signals → ℕ → Chunk → World → World
 unfolding tickOf rowsOfChunk audioOf glided
 chunkStep samples signals i c w =
-    let snap = snapOf i w in afterTick samples signals i c snap (ticked samples signals c snap w)
+    let snap = snapAt i w in afterTick samples signals i c snap (ticked samples signals c snap w)
 
 -- the first n chunks of a block
 unfoldable pub chunkSteps : List Float → Signals → Block → ℕ → World → World
@@ -246,8 +246,8 @@ routed samples signals start end w =
     closed b (end - start) (chunkSteps samples signals b (chunkTotal b) (drawn (loaded w)))
 
 -- a nonempty range
-abbrev pub run : List Float → Signals → ℕ → ℕ → World → World
-run samples signals start end w =
+abbrev pub overRange : List Float → Signals → ℕ → ℕ → World → World
+overRange samples signals start end w =
     cond (eqb (routeTotal (w .state .program)) 0) (routeless (end - start) w) (routed samples signals start end w)
 
 -- THE CALL: a refused one, and an empty range, change nothing
@@ -259,4 +259,4 @@ unfoldable pub process : World → List Float → Signals → ℕ → ℕ → Pr
 unfolding judged chunkSteps glided
 process w samples signals start end =
     let code = judged (processRows w samples signals end) in
-    record { code = code; world = cond (eqb code 0 && ltb start end) (run samples signals start end w) w }
+    record { code = code; world = cond (eqb code 0 && ltb start end) (overRange samples signals start end w) w }

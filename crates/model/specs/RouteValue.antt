@@ -74,17 +74,17 @@ abbrev pub idle : Env → Route → Bool
 idle t r = liveGain (r .amount) && (liveGain (r .output) && isZero (gainOf t r))
 
 -- a whole row stands there to be read (engine.rs 1022-1037)
-abbrev pub rowed : Env → Read → Bool
-rowed t (D.Signal src true) =
+abbrev pub wholeRow : Env → Read → Bool
+wholeRow t (D.Signal src true) =
     ltb 0 (partOf (t .signals) src .len)
     && (leb (t .stride) (partStride (partOf (t .signals) src))
     && leb (t .upTo * partStride (partOf (t .signals) src)) (partOf (t .signals) src .len))
-rowed t (D.Signal src false) = false
-rowed t (D.Held src voice) = voice
-rowed t (D.Fed e voice) = voice
-rowed t D.Constant = false
-rowed t D.RouteRandom = true
+wholeRow t (D.Signal src false) = false
+wholeRow t (D.Held src voice) = voice
+wholeRow t (D.Fed e voice) = voice
+wholeRow t D.Constant = false
+wholeRow t D.RouteRandom = true
 
 -- the route is plain, into a destination per voice while a voice is active
 unfoldable pub plain : Env → Bool → Route → Bool
-plain t voice r = voice && (sounding t && (r .simple && rowed t (r .source .read)))
+plain t voice r = voice && (sounding t && (r .simple && wholeRow t (r .source .read)))

@@ -29,7 +29,7 @@ use Rattle.model.specs.Routes.{noSlot, inputBy, auxBy, routeBy}
 use Rattle.model.specs.Env.{Env, Rows, Own}
 use Rattle.model.specs.Mix.{Mix}
 use Rattle.model.specs.Slews.{sourceAfter, auxAfter}
-use Rattle.model.specs.Tick.{widthOf, newTo, newFrom}
+use Rattle.model.specs.Tick.{mixWidth, newTo, newFrom}
 
 -- ---- the numbers of a program, by destination and by slot
 
@@ -92,7 +92,7 @@ destMix w d =
 
 -- the lanes of a destination: the lane stride, or 1
 abbrev pub lanesOf : Wiring → Env → ℕ → ℕ
-lanesOf w t d = widthOf t (destMix w d)
+lanesOf w t d = mixWidth t (destMix w d)
 
 -- the own numbers of its routes
 abbrev pub ownsOf : Wiring → Values → ℕ → Own

@@ -31,8 +31,8 @@ use Rattle.model.specs.Compile.{emptyOf, zeroed}
 use Rattle.model.specs.Counts.{strideOf, engineSources, engineDests, routeTotal}
 use Rattle.model.specs.Env.{noPart}
 use Rattle.model.specs.World.{World, markAt, heldPlace}
-use Rattle.model.specs.States.{withMarks, withGains, withLimit, withPrimed, withProgram, putState, putHeld}
-use Rattle.model.specs.States.{putGlobals, putBases}
+use Rattle.model.specs.States.{withMarks, withGains, withDraw, withLimit, withPrimed, withProgram, putState}
+use Rattle.model.specs.States.{putHeld, putGlobals, putBases}
 use Rattle.model.specs.Process.{noBlock}
 
 -- what a call leaves: its number, and the world
@@ -198,6 +198,11 @@ setOutput w n x =
 unfoldable pub setVoiceLimit : World → ℕ → Done
 unfolding doneBy
 setVoiceLimit w n = doneBy [] w (putState w (withLimit (w .state) (max n 1)))
+
+-- the state of the draws is this one (engine.rs 232)
+unfoldable pub setDraw : World → ℕ → Done
+unfolding doneBy
+setDraw w x = doneBy [] w (putState w (withDraw (w .state) x))
 
 -- ---- a program is installed (engine.rs 356-376)
 

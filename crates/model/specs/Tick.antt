@@ -21,8 +21,8 @@ use Rattle.model.specs.Slews.{sourceAfter, auxAfter}
 abbrev pub offPhase : ℕ → Bool
 offPhase phase = not (eqb phase 0)
 
-abbrev pub widthOf : Env → Mix → ℕ
-widthOf t x = planWidth (t .stride) (x .voice)
+abbrev pub mixWidth : Env → Mix → ℕ
+mixWidth t x = planWidth (t .stride) (x .voice)
 
 -- a lane of a voice that started since the last block, in its first chunk (engine.rs 922)
 abbrev pub starting : Env → Mix → ℕ → Bool
@@ -104,7 +104,7 @@ turn st t phase d m =
     let f = rowsOf st m in
     let s = ownOf st m d in
     let old = rowsOf st m d in
-    putPlan st d (widthOf t x) (newTo t phase x f s old) (newFrom t phase x f s old (lanesFrom m (fromStart st d)))
+    putPlan st d (mixWidth t x) (newTo t phase x f s old) (newFrom t phase x f s old (lanesFrom m (fromStart st d)))
     (slewAfter t x f s) m
 
 -- the turns of the first k plans

@@ -8,7 +8,7 @@ use Rattle.state.specs.declared.State.{State}
 use Rattle.model.specs.Counts.{planAt, routeAt}
 use Rattle.model.specs.Env.{Env}
 use Rattle.model.specs.Mix.{Mix, planMix}
-use Rattle.model.specs.Tick.{widthOf}
+use Rattle.model.specs.Tick.{mixWidth}
 use Rattle.lane_input.specs.declared.Scene.{Scene}
 use Rattle.lane_input.specs.Scene.{envOf}
 use Rattle.lane_input.specs.Reads.{planRows}
@@ -41,5 +41,5 @@ job-sums w x held globals bases tables samples values mix =
     }
 
 -- the lanes of a job are the lanes of its destination
-pub job-width : {t : Env} {x : Mix} {w : Job} → IsJob t x w → laneCount w ≡ widthOf t x
+pub job-width : {t : Env} {x : Mix} {w : Job} → IsJob t x w → laneCount w ≡ mixWidth t x
 job-width k = rw (k .scene .stride, k .mix .voice)

@@ -28,7 +28,7 @@ use Rattle.model.specs.Counts.{at}
 use Rattle.model.specs.Env.{Env, Rows, noPart, partOf, partStride, sampleIn}
 use Rattle.model.specs.Input.{readIn}
 use Rattle.model.specs.Lanes.{inSpan, sounding}
-use Rattle.model.specs.RouteValue.{rowed}
+use Rattle.model.specs.RouteValue.{wholeRow}
 use Rattle.plan_sweep.specs.declared.Field.{Field}
 use Rattle.plan_sweep.specs.declared.Pass.{Pass}
 use Rattle.plan_sweep.specs.Leads.{rowKey, Moves, Lead, Led, offsetSum, passOf, Fielded}
@@ -122,7 +122,7 @@ module _ (routes : List Route) (parts : List SignalPart) (amount output : List F
 -- ---- what the model reads
 
 rows-are : (t : Env) (z : Signals) (stride end len p : ℕ) (read : Read) → t .stride ≡ stride → t .signals ≡ z → t .upTo ≤ end → rowKey read < mostSources
-    → Moves (getD (z .part) (rowKey read) noPart) stride end len p → rowed t read ≡ true
+    → Moves (getD (z .part) (rowKey read) noPart) stride end len p → wholeRow t read ≡ true
 unfolding partOf
 rows-are t z stride end len p (D.Signal src true) hs hz hu b m =
     let q : SignalPart = getD (z .part) src noPart in

@@ -20,7 +20,7 @@ use Rattle.model.specs.Counts.{strideOf, planAt, at}
 use Rattle.model.specs.Env.{Env, Rows, Own, gainOf, baseOf}
 use Rattle.model.specs.Lanes.{inSpan, sounding}
 use Rattle.model.specs.Mix.{Mix}
-use Rattle.model.specs.RouteValue.{isZero, sourceIn, auxIn, rawIn, rowed, plain}
+use Rattle.model.specs.RouteValue.{isZero, sourceIn, auxIn, rawIn, wholeRow, plain}
 use Rattle.model.specs.Routes.{freeSlew}
 use Rattle.model.specs.Slews.{auxSlew, sourceAfter, auxAfter}
 use Rattle.model.specs.Sums.{baseIn, offsets, somePlain, allPlain, scaledGain, plains, hasPlain, others, audioBegun, audioSum}
@@ -84,7 +84,7 @@ slews-still st d t x f s m k o h = slews-stay st d (slewAfter t x f s) m k (λ j
 
 -- ---- sums
 
-pub plain-by : (t : Env) (voice : Bool) (r : Route) → voice ≡ true → sounding t ≡ true → r .simple ≡ true → rowed t (r .source .read) ≡ true → plain t voice r ≡ true
+pub plain-by : (t : Env) (voice : Bool) (r : Route) → voice ≡ true → sounding t ≡ true → r .simple ≡ true → wholeRow t (r .source .read) ≡ true → plain t voice r ≡ true
 unfolding plain
 plain-by t voice r v s p k = rw (v, s, p, k)
 

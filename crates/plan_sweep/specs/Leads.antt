@@ -20,7 +20,7 @@ use Rattle.model.specs.Counts.{at}
 use Rattle.model.specs.Env.{Env, Rows, partStride}
 use Rattle.model.specs.Input.{readIn}
 use Rattle.model.specs.Lanes.{inSpan, sounding}
-use Rattle.model.specs.RouteValue.{rowed}
+use Rattle.model.specs.RouteValue.{wholeRow}
 use Rattle.plan_sum.specs.Job.{slotGain}
 use Rattle.plan_sweep.specs.declared.Field.{Field}
 use Rattle.plan_sweep.specs.declared.Leads.{Leads}
@@ -45,7 +45,7 @@ pub record Moves (q : SignalPart) (stride end len p : ℕ) : Type 0 where
 -- r is swept up to frame `end`: the numbers that it reads start at s and move by p, its scaled gain is g, and its offset times its gain is o
 pub record Lead (z : Signals) (v : Gains) (stride end : ℕ) (xs : List Float) (r : Route) (s p : ℕ) (g o : Float) : Type 0 where
   pub simple : r .simple ≡ true
-  pub rows : (t : Env) → t .stride ≡ stride → t .signals ≡ z → t .upTo ≤ end → rowed t (r .source .read) ≡ true
+  pub rows : (t : Env) → t .stride ≡ stride → t .signals ≡ z → t .upTo ≤ end → wholeRow t (r .source .read) ≡ true
   pub reads : (t : Env) (f : Rows) (u : Float) (l : ℕ) → t .signals ≡ z → t .samples ≡ xs → t .frame < end → l < stride
       → readIn t f u l (r .source .read) ≡ at xs (s + (t .frame * p + l))
   pub wide : stride ≤ p

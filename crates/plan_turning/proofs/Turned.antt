@@ -25,7 +25,7 @@ use Rattle.model.specs.Layout.{planWidth, planSize, planFrom}
 use Rattle.model.specs.Mix.{Mix, planMix}
 use Rattle.model.specs.RouteValue.{rawIn, plain}
 use Rattle.model.specs.Sums.{baseIn, offsets, scaledGain, plains, begun, tickSum}
-use Rattle.model.specs.Tick.{widthOf, newTo, newFrom, fillFrom, lanesFrom, fromStart, toStart, ownStart, rowsOf, ownOf, putSlews, slewAfter, turn, turns}
+use Rattle.model.specs.Tick.{mixWidth, newTo, newFrom, fillFrom, lanesFrom, fromStart, toStart, ownStart, rowsOf, ownOf, putSlews, slewAfter, turn, turns}
 use Rattle.model.proofs.FillFrom.{fill-outside}
 use Rattle.plan_slews.specs.Seen.{Ticks}
 use Rattle.plan_sweep.specs.declared.Field.{Field}
@@ -178,7 +178,7 @@ module _ (st : State) (t : Env) (r : Round) (plans : List Plan) (b xs : List Flo
     abbrev rowsBy : ℕ → ℕ → ℕ → List Float
     rowsBy n i j = fillFrom (fillFrom m i (newFrom t phase mix rows own (lanesFrom m j) (lanesFrom m i)) n) j (newTo t phase mix rows own (lanesFrom m j)) n
 
-    turn-is : turn st t phase d m ≡ putSlews st d (slewAfter t mix rows own) (mix .count) (rowsBy (widthOf t mix) (fromStart st d) (toStart st d))
+    turn-is : turn st t phase d m ≡ putSlews st d (slewAfter t mix rows own) (mix .count) (rowsBy (mixWidth t mix) (fromStart st d) (toStart st d))
     unfolding turn
     turn-is = refl
 
@@ -193,7 +193,7 @@ module _ (st : State) (t : Env) (r : Round) (plans : List Plan) (b xs : List Flo
         (fill-outside (fillFrom m i (newFrom t phase mix rows own (lanesFrom m j) (lanesFrom m i)) n) j (newTo t phase mix rows own (lanesFrom m j)) n place (inr upper)
         ∙ fill-outside m i (newFrom t phase mix rows own (lanesFrom m j) (lanesFrom m i)) n place (inr lower))
 
-    width-is : widthOf t mix ≡ strideOf st
+    width-is : mixWidth t mix ≡ strideOf st
     width-is = ap (λ (k : Bool). planWidth (t .stride) k) voice-is ∙ z .stride ∙ sym (z .lanes)
 
     -- THE TURN: both rows; the slews stand still
