@@ -39,7 +39,9 @@ newAudio t x f s old l =
 -- ---- in the lent memories
 
 pub record Sounds : Type 0 where
+  -- control values, ramps, slews and random inputs of a program
   pub values : List Float
+  -- its audio rows
   pub audio : List Float
 
 abbrev pub rowStart : State → ℕ → ℕ → ℕ

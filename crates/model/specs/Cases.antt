@@ -46,8 +46,11 @@ use Rattle.model.specs.Outputs.{fromPlace, toPlace}
 use Rattle.model.specs.Calls.{Call, base-set, note-on, voice-ended, swap, block, Runner, keptOf, startOf, run}
 
 pub record Case : Type 0 where
+  -- document 01's number of it
   pub number : ℕ
+  -- what the definitions give
   pub found : List ℕ
+  -- what document 01 says
   pub expected : List ℕ
 
 abbrev pub bits : List Float → List ℕ

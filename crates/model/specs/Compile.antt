@@ -73,8 +73,11 @@ emptyProgram c = answeredBy (configCode (c .«sample_rate») (c .«max_frames»)
 
 -- the memories lent to be written
 pub record Memories : Type 0 where
+  -- for the program's control values, ramps, slews and random inputs
   pub values : List Float
+  -- for its audio rows
   pub audio : List Float
+  -- for the tables of its curves
   pub tables : List Float
 
 -- row 6: amounts, outputs and seconds of every slot, and the numbers of named tables; a sample rate that is not finite
@@ -110,7 +113,9 @@ madeIn w tables l =
     }
 
 pub record Made : Type 0 where
+  -- what the call answers
   pub answer : Compiled
+  -- the lent memories afterwards
   pub lent : Memories
 
 -- a refused call leaves the memories as they came

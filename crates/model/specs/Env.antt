@@ -19,6 +19,7 @@ use Rattle.model.specs.Counts.{at}
 pub record Env : Type 0 where
   -- the lane stride
   pub stride : ℕ
+  -- which voices are active, and the newest
   pub voices : Voices
   -- the voices that started since the last block
   pub fresh : List Bool
@@ -26,17 +27,25 @@ pub record Env : Type 0 where
   pub gains : Gains
   -- the program has ticked since it was installed
   pub primed : Bool
+  -- held numbers of sources, a row of lanes for each
   pub held : List Float
+  -- held numbers of global sources, one for each
   pub globals : List Float
+  -- bases as set, one for each destination
   pub bases : List Float
+  -- the tables of the program's curves
   pub tables : List Float
+  -- the numbers of all signals
   pub samples : List Float
+  -- where each source's signal lies in them
   pub signals : Signals
-  -- the frame at which signals are read, and the frames that a signal must have for whole rows of it to be read
+  -- the frame at which signals are read
   pub frame : ℕ
+  -- the frames that a signal must have for whole rows of it to be read
   pub upTo : ℕ
-  -- the samples by which slews move, and whether those of fresh lanes end at their input
+  -- the samples by which slews move
   pub steps : Float
+  -- in the first chunk of a block with fresh voices: slews of fresh lanes end at their input
   pub snap : Bool
 
 -- control values that fed inputs read: of plan or destination e, in a lane

@@ -75,13 +75,18 @@ audio-examples = (refl, refl)
 
 -- ---- the parts of a memory
 
--- voice i: plan i is per voice
 pub record Sizes : Type 0 where
+  -- the lane stride
   pub stride : ℕ
+  -- the most chunks of a block
   pub chunks : ℕ
+  -- the most frames of a block
   pub frames : ℕ
+  -- how many plans
   pub plans : ℕ
+  -- how many routes
   pub routes : ℕ
+  -- whether a plan is per voice
   pub voice : ℕ → Bool
 
 -- of a program

@@ -9,13 +9,19 @@ use Rattle.state.specs.declared.State.{State}
 use Rattle.model.specs.Counts.{planAt, routeAt}
 
 pub record Mix : Type 0 where
+  -- its number
   pub dest : ℕ
+  -- it is per voice
   pub voice : Bool
+  -- the lower bound
   pub min : Float
+  -- the upper bound
   pub max : Float
+  -- where its base is read: as set, or from the thing that it feeds
   pub base : Base
-  -- how many routes, and each
+  -- how many routes
   pub count : ℕ
+  -- each of them, in slot order
   pub route : ℕ → Route
 
 -- of plan d

@@ -91,8 +91,11 @@ pub data Blocks (w : Wiring) (samples : List Float) (signals : Signals) (start e
 
 pub record Rendered (names : ℕ → Wiring) (samples : List Float) (signals : Signals) (start end : ℕ)
     (r q : Runner) : Type 0 where
+  -- what the block leaves
   pub after : World
+  -- it is a block of the model
   pub blocks : Blocks (names (r .installed)) samples signals start end (r .world) after
+  -- the programs that are not installed are as before
   pub same : q ≡ onWorld r after
 
 -- a block meets the rule at each tick; any other call does as the definitions say

@@ -32,9 +32,13 @@ use Rattle.model.specs.Settings.{Done, doneBy, heldShort, numberRow}
 
 -- what a note brings (engine.rs 68-103)
 pub record Note : Type 0 where
+  -- the key's number, 0 to 127
   pub key : Float
+  -- its velocity, 0 to 1
   pub velocity : Float
+  -- the voice sounds on
   pub legato : Bool
+  -- how long a legato note glides
   pub glide-seconds : Float
 
 -- engine.rs 94-102: not legato, with 0 seconds

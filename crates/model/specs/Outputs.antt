@@ -93,7 +93,9 @@ outputOf st values audio d = cond (valuesShort st values || audioShort st audio)
 
 -- a part of a lent memory, with the call's number
 pub record Parted : Type 0 where
+  -- the number that the call hands back
   pub code : ℕ
+  -- the part
   pub numbers : List Float
 
 -- by the rows that judge the call: the n numbers from a on; none where the call is refused, or where the test fails
@@ -214,7 +216,9 @@ latestRows st values audio n [] = []
 latestRows st values audio n (d ∷ ds) = latestRow st values audio n d ++ latestRows st values audio n ds
 
 pub record Written : Type 0 where
+  -- the number that the call hands back
   pub code : ℕ
+  -- the memory lent for the answer, afterwards
   pub out : List Float
 
 unfoldable pub latestAll : State → List Float → List Float → ℕ → List Float → Written
@@ -251,7 +255,9 @@ abbrev pub rampLength : State → ℕ
 rampLength st = st .block .end - st .block .start
 
 pub record RampWritten : Type 0 where
+  -- what the call answers
   pub answer : Ramped
+  -- the memory lent for the ramp, afterwards
   pub out : List Float
 
 abbrev pub ramped : State → List Float → ℕ → ℕ → List Float → RampWritten

@@ -102,7 +102,9 @@ abbrev pub loaded : World → World
 loaded w = putGlobals w (loadBy (w .state) (loadOf (w .state)) (engineSources (w .state)) (w .globals))
 
 pub record Drawn : Type 0 where
+  -- the state of the draws
   pub draw : ℕ
+  -- the lent values, in which random inputs stand
   pub values : List Float
 
 -- one draw for each renoted voice of the first n, from place a on
@@ -252,7 +254,9 @@ overRange samples signals start end w =
 
 -- THE CALL: a refused one, and an empty range, change nothing
 pub record Processed : Type 0 where
+  -- the number that the call hands back
   pub code : ℕ
+  -- engine and memories afterwards
   pub world : World
 
 unfoldable pub process : World → List Float → Signals → ℕ → ℕ → Processed

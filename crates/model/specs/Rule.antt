@@ -34,8 +34,9 @@ use Rattle.model.specs.Tick.{mixWidth, newTo, newFrom}
 -- ---- the numbers of a program, by destination and by slot
 
 pub record Values : Type 0 where
-  -- of a destination, in a lane: its number, and where its ramp starts
+  -- of a destination, in a lane: its number
   pub to : ℕ → ℕ → Float
+  -- of a destination, in a lane: where its ramp starts
   pub from : ℕ → ℕ → Float
   -- of a slot, in a lane: row 0 and 1 the slews of source and aux, row 2 and 3 their random inputs
   pub own : ℕ → ℕ → ℕ → Float
@@ -114,11 +115,15 @@ Meets Same w t phase v to = (d l : ℕ) → In d (controls w) → l < lanesOf w 
 
 -- THE RULE: u after the tick. Ramps and slews follow from the numbers
 pub record Rule (w : Wiring) (t : Env) (phase : ℕ) (v u : Values) : Type 0 where
+  -- each number is what the rule gives for the numbers
   pub numbers : Meets _≡_ w t phase v (u .to)
+  -- ramps start at the new number or at the old
   pub ramps : (d l : ℕ) → In d (controls w) → l < lanesOf w t d
       → u .from d l ≡ newFrom t phase (destMix w d) (seen v (u .to) d) (ownsOf w v d) (v .to d) (v .from d) l
+  -- slews of sources move by the inputs read
   pub sources : (d j l : ℕ) → In d (controls w) → j < length (slotsInto w d) → l < t .stride
       → ownsOf w u d j 0 l ≡ sourceAfter t (destMix w d) (seen v (u .to) d) (ownsOf w v d) j l
+  -- and those of auxes
   pub auxes : (d j l : ℕ) → In d (controls w) → j < length (slotsInto w d) → l < t .stride
       → ownsOf w u d j 1 l ≡ auxAfter t (destMix w d) (seen v (u .to) d) (ownsOf w v d) j l
 

@@ -35,9 +35,11 @@ use Rattle.model.specs.States.{withMarks, withGains, withDraw, withLimit
 use Rattle.model.specs.States.{putHeld, putGlobals, putBases}
 use Rattle.model.specs.Process.{noBlock}
 
--- what a call leaves: its number, and the world
+-- what a call leaves
 pub record Done : Type 0 where
+  -- the number that it hands back
   pub code : ℕ
+  -- engine and memories
   pub world : World
 
 -- the next world where the rows accept
@@ -233,10 +235,13 @@ installed st p =
     withMarks (withPrimed (withGains (withProgram st p) (p .gains)) false)
     (marksSwapped (st .marks) (st .voices .active))
 
--- the memories are the caller's: the state, and the program that comes back
+-- what it leaves; the memories are the caller's
 pub record Swap : Type 0 where
+  -- the number that it hands back
   pub code : ℕ
+  -- the engine's state
   pub state : State
+  -- the program that comes back
   pub program : Program
 
 unfoldable pub swapProgram : State → Program → Swap

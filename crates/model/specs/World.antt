@@ -14,12 +14,19 @@ use Rattle.model.specs.Counts.{strideOf, engineSources}
 
 -- the engine, its own memories, and those of the installed program
 pub record World : Type 0 where
+  -- the engine's state, the installed program in it
   pub state : State
+  -- held numbers of sources, a row of lanes for each
   pub held : List Float
+  -- held numbers of global sources, one for each
   pub globals : List Float
+  -- bases as set, one for each destination
   pub bases : List Float
+  -- the program's control values, ramps, slews and random inputs
   pub values : List Float
+  -- its audio rows
   pub audio : List Float
+  -- the tables of its curves
   pub tables : List Float
 
 -- by its parts
