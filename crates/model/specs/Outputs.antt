@@ -177,7 +177,8 @@ audioAt st audio d k v =
 unfoldable pub controlValue : State → List Float → ℕ → ℕ → ℕ → Reading
 unfolding judged chunkTotal
 controlValue st values d c v =
-    readingBy (voiceRow st v ∷ 14 when valuesShort st values ∷ []) (isControlPlan st d && ltb c (chunkTotal (st .block)))
+    readingBy (voiceRow st v ∷ 14 when valuesShort st values ∷ [])
+    (isControlPlan st d && ltb c (chunkTotal (st .block)))
     (toNumber st values d c v)
 
 -- the number after the last chunk, or at its last frame (engine.rs 642-656)
