@@ -1,7 +1,7 @@
 #!/usr/bin/env python3
 """programs.py [FILE]
 
-Writes examples for the definition of compiling (crates/model/specs/CompiledExamples.antt, or
+Writes examples for the definition of compiling (crates/model_examples/specs/CompiledExamples.antt, or
 FILE): each program that the sessions in cases/ compile, and those of a few random sessions
 with small registries, with the plans, the routes and the slots left out as the Rust compiles
 them. A random one is taken if it shows a kind of plan or route that none before it shows. The
@@ -236,7 +236,7 @@ def main():
         parts.append("-- %s\nw%d : Wiring\nw%d =\n    %s\n" % (name, i, i, wiring))
         parts.append("p%d : Compiles w%d\n    (%s)\n    %s\n    (%s)\n    (%s)\nunfolding w%d ALL\np%d = (refl, refl, refl, refl)\n"
                      % (i, i, listed(plans), control, listed(routes), listed(skipped), i, i))
-    path = sys.argv[1] if len(sys.argv) > 1 else os.path.join(HERE, "../crates/model/specs/CompiledExamples.antt")
+    path = sys.argv[1] if len(sys.argv) > 1 else os.path.join(HERE, "../crates/model_examples/specs/CompiledExamples.antt")
     with open(path, "w", encoding="utf-8") as f:
         f.write("\n".join(parts).replace(" ALL\n", " " + UNFOLDED + "\n"))
     print("programs: %d examples" % len(found))

@@ -1,9 +1,11 @@
 #!/usr/bin/env python3
 """sessions.py [FILE]
 
-Writes examples for the definitions of calls on an engine (crates/model/specs/SessionExamples.antt, or FILE): the sessions in cases/ that are
+Writes examples for the definitions of calls on an engine (crates/model_examples/specs/SessionExamples.antt): the sessions in cases/ that are
 small enough, with what the Rust prints after each block: "from" and "to" of every chunk of each control destination, in every lane, and the audio rows
-of the block's frames. The checker computes the definitions on each and compares, the two zeros taken as one. Needs target/release/oracle; `rt fmt` lays the file out.
+of the block's frames. Those that BESIDE names, which refuse the must-fail edits of crate model, are written beside the definitions
+(crates/model/specs/SmallSessions.antt) and not there. With FILE, all go into that one. The checker computes the definitions on each and
+compares, the two zeros taken as one. Needs target/release/oracle; `rt fmt` lays the files out.
 """
 import os
 import re
@@ -25,6 +27,8 @@ def size(crate, name):
 
 
 SLOTS, POINTS = size("config", "SLOTS"), size("curve_table", "POINTS")
+# sessions that stay beside the definitions
+BESIDE = ("diff-3-", "t14-", "t28-", "t29-")
 
 
 class Skip(Exception):
@@ -204,38 +208,52 @@ def example(name, text):
     return s
 
 
+def definitions(i, name, s):
+    """session number i as a runner, its calls, and what is seen after each block"""
+    kept = P.listed(["keptOf (%s) %s" % (w, t) for w, t in s.kept])
+    blocks, at = [], []
+    for c in s.calls:
+        if c is None:
+            blocks.append(at)
+            at = []
+        else:
+            at.append("(%s)" % c)
+    return ["-- %s\nr%d : Runner\nr%d =\n    startWith (%s)\n    (%s)\n" % (name, i, i, s.start, kept),
+            "c%d : List (List Call)\nc%d = %s\n" % (i, i, P.listed(["(%s)" % P.listed(b) for b in blocks])),
+            "e%d : reports c%d r%d ≡ %s\nunfolding c%d r%d ALL\ne%d = refl\n"
+            % (i, i, i, P.listed(["(%s)" % P.listed(b) for b in s.reports]), i, i, i)]
+
+
+def write(path, parts, crate):
+    """the sessions of a file, with the definitions by the names that they have in that crate"""
+    path = os.path.join(HERE, path)
+    head = HEAD.replace("Rattle.model.", "Rattle.model.specs.") if crate == "model" else HEAD
+    with open(path, "w", encoding="utf-8") as f:
+        f.write("\n".join([head] + parts).replace(" ALL\n", " " + UNFOLDED + "\n"))
+
+
 def main():
-    parts, done = [HEAD], []
+    parts, beside, done = [], [], 0
     only, seeds = os.environ.get("ONLY"), os.environ.get("SEEDS")
     texts = [("cases/" + n, open(os.path.join(HERE, "cases", n), encoding="utf-8").read()) for n in sorted(os.listdir(os.path.join(HERE, "cases")))
              if not only or n.startswith(tuple(only.split(",")))]
     if seeds:
         a, b = map(int, seeds.split(","))
         texts = [("small.py %d" % k, small.session(k)) for k in range(a, b)]
+    one = os.path.abspath(sys.argv[1]) if len(sys.argv) > 1 else None
     for name, text in texts:
         try:
             s = example(name, text)
         except Skip as e:
             print("left out: %s: %s" % (name, e))
             continue
-        i = len(done)
-        done.append(name)
-        kept = P.listed(["keptOf (%s) %s" % (w, t) for w, t in s.kept])
-        blocks, at = [], []
-        for c in s.calls:
-            if c is None:
-                blocks.append(at)
-                at = []
-            else:
-                at.append("(%s)" % c)
-        parts.append("-- %s\nr%d : Runner\nr%d =\n    startWith (%s)\n    (%s)\n" % (name, i, i, s.start, kept))
-        parts.append("c%d : List (List Call)\nc%d = %s\n" % (i, i, P.listed(["(%s)" % P.listed(b) for b in blocks])))
-        parts.append("e%d : reports c%d r%d ≡ %s\nunfolding c%d r%d ALL\ne%d = refl\n"
-                     % (i, i, i, P.listed(["(%s)" % P.listed(b) for b in s.reports]), i, i, i))
-    path = sys.argv[1] if len(sys.argv) > 1 else os.path.join(HERE, "../crates/model/specs/SessionExamples.antt")
-    with open(path, "w", encoding="utf-8") as f:
-        f.write("\n".join(parts).replace(" ALL\n", " " + UNFOLDED + "\n"))
-    print("sessions: %d examples" % len(done))
+        small_one = not one and name.startswith(tuple("cases/" + b for b in BESIDE))
+        (beside if small_one else parts).extend(definitions(done, name, s))
+        done += 1
+    write(one or "../crates/model_examples/specs/SessionExamples.antt", parts, "model_examples")
+    if not one:
+        write("../crates/model/specs/SmallSessions.antt", beside, "model")
+    print("sessions: %d examples" % done)
 
 
 UNFOLDED = open(os.path.join(HERE, "sessions.unfolded"), encoding="utf-8").read().strip()

@@ -27,6 +27,5 @@ pub mod Calls
 pub mod Rule
 pub mod Model
 pub mod Claim
-mod CompiledExamples
-mod SessionExamples
+mod SmallSessions
 mod ClaimExamples

@@ -355,27 +355,6 @@ c10 = ((swap 1) ∷ (held-set 0 (fin false 1 (pos 0))) ∷ (held-set 1 (fin fals
 e10 : reports c10 r10 ≡ (1056964608 ∷ 1056964608 ∷ 1056964608 ∷ 1056964608 ∷ 1056964608 ∷ 1056964608 ∷ 1056964608 ∷ 1056964608 ∷ 1056964608 ∷ 1056964608 ∷ 1056964608 ∷ 1056964608 ∷ 1056964608 ∷ 1056964608 ∷ 1056964608 ∷ 1056964608 ∷ 1056964608 ∷ 1056964608 ∷ 1056964608 ∷ 1056964608 ∷ 1056964608 ∷ 1056964608 ∷ 1056964608 ∷ 1056964608 ∷ 1056964608 ∷ 1056964608 ∷ 1056964608 ∷ 1056964608 ∷ 1056964608 ∷ 1056964608 ∷ 1056964608 ∷ 1056964608 ∷ 1065353216 ∷ 1056964608 ∷ 1056964608 ∷ 1056964608 ∷ 1056964608 ∷ 1056964608 ∷ 1056964608 ∷ 1056964608 ∷ 1056964608 ∷ 1056964608 ∷ 1056964608 ∷ 1056964608 ∷ 1056964608 ∷ 1056964608 ∷ 1056964608 ∷ 1056964608 ∷ 1065353216 ∷ 1056964608 ∷ 1056964608 ∷ 1056964608 ∷ 1056964608 ∷ 1056964608 ∷ 1056964608 ∷ 1056964608 ∷ 1056964608 ∷ 1056964608 ∷ 1056964608 ∷ 1056964608 ∷ 1056964608 ∷ 1056964608 ∷ 1056964608 ∷ 1056964608 ∷ []) ∷ []
 unfolding c10 r10 process judged chunkSteps chunkStep tickOf turns turn newTo newFrom sourceAfter auxAfter putSlews fillFrom tickSum others plains offsets somePlain plain routeValue inputIn inGroup sounding inSpan planAt routeAt partOf sampleIn fill part onPart rowsOfChunk audioOf audioPlans glided movedHeld advanced joined moving movedValue movedGlide chunkTotal chunkOf loadBy activeCount drawRoutes putState putHeld putGlobals putValues putAudio withVelocity withKey withMarks withPhase withBlock withPrimed withGains withProgram withDraw marksCleared marksSwapped noMarks noVoices noNotes freshState emptyOf swapProgram compiled padded targetPlace verdict verdictsFrom verdicts candidates skippedOf inUse countedFeed usedDests feederOf readersOf reads hearsAudio isAudio controls audios planOrder order slewFor inputBy routeBy routeIn planBy plansOf allRoutes secondsOf ratePerSample namesTable anyNames slotNames hold max32 min32 isNan lt le eq add sub mul div ofInt setHeld setVoiceHeld setBase setAmount setOutput setVoiceLimit noteOn noteOff voiceEnded run doneBy noteCurve randomsSet alternates soundedOn ranksOn endedOf newestAfter marksOn marksEnded setNote setValue setGlide legatoTime endedNote arrives glideMoved heldBy drawVoices withVoices withAlternate withLimit putBases lookupOf position cellOf partOfCell reach moved slewStep step scrambled drawBits drawOf rowAt onRow keptAmount keptOutput clampTo finite ne neg toBits toUnsigned audioFrame audioFrames newAudio audioSum allPlain fromPart toPart isSounding absOf
 e10 = refl
-
--- cases/diff-3-unprimed-slew.txt
-r11 : Runner
-r11 =
-    startWith (wiredAs (record { «sample_rate» = (fin false 1 (pos 6)); «max_frames» = 64; voices = 1 })
-    (source (K.Constant) S.Global R.Unipolar ∷ [])
-    (record { target = (A.Param 0); scope = S.Global; rate = T.Control; min = (inf true); max = (inf false); feed = F.Nothing } ∷ [])
-    (record { source = P.Source 0; «source_curve» = C.Table (fin false 1 (pos 0)) (fin false 0 (pos 0)); amount = (fin false 1 (pos 0)); polarity = Q.Unipolar; destination = M.At (A.Param 0); aux = P.Nothing; «aux_invert» = false; «aux_curve» = C.Linear; output = (fin false 1 (pos 0)); bypass = false } ∷ [])
-    N.Linear N.Linear false false)
-    (keptOf (wiredAs (record { «sample_rate» = (fin false 1 (pos 6)); «max_frames» = 64; voices = 1 })
-    (source (K.Constant) S.Global R.Unipolar ∷ [])
-    (record { target = (A.Param 0); scope = S.Global; rate = T.Control; min = (inf true); max = (inf false); feed = F.Nothing } ∷ [])
-    (record { source = P.Source 0; «source_curve» = C.Table (fin false 1 (pos 0)) (fin false 0 (pos 0)); amount = (fin false 1 (pos 0)); polarity = Q.Unipolar; destination = M.At (A.Param 0); aux = P.Nothing; «aux_invert» = false; «aux_curve» = C.Linear; output = (fin false 1 (pos 0)); bypass = false } ∷ [])
-    N.Linear N.Linear false false) (tabulated diagonalAt ++ (replicate 66177 zero32)) ∷ [])
-
-c11 : List (List Call)
-c11 = ((block ([]) (record { part = [] }) 0 5) ∷ []) ∷ ((note-on 0 (record { key = (fin false 15 (pos 2)); velocity = (fin false 1 (pos 0)); legato = false; glide-seconds = (fin false 0 (pos 0)) })) ∷ (voice-ended 0) ∷ (swap 1) ∷ (block ([]) (record { part = [] }) 0 59) ∷ []) ∷ []
-
-e11 : reports c11 r11 ≡ ([]) ∷ (0 ∷ 0 ∷ 0 ∷ 1056964608 ∷ []) ∷ []
-unfolding c11 r11 process judged chunkSteps chunkStep tickOf turns turn newTo newFrom sourceAfter auxAfter putSlews fillFrom tickSum others plains offsets somePlain plain routeValue inputIn inGroup sounding inSpan planAt routeAt partOf sampleIn fill part onPart rowsOfChunk audioOf audioPlans glided movedHeld advanced joined moving movedValue movedGlide chunkTotal chunkOf loadBy activeCount drawRoutes putState putHeld putGlobals putValues putAudio withVelocity withKey withMarks withPhase withBlock withPrimed withGains withProgram withDraw marksCleared marksSwapped noMarks noVoices noNotes freshState emptyOf swapProgram compiled padded targetPlace verdict verdictsFrom verdicts candidates skippedOf inUse countedFeed usedDests feederOf readersOf reads hearsAudio isAudio controls audios planOrder order slewFor inputBy routeBy routeIn planBy plansOf allRoutes secondsOf ratePerSample namesTable anyNames slotNames hold max32 min32 isNan lt le eq add sub mul div ofInt setHeld setVoiceHeld setBase setAmount setOutput setVoiceLimit noteOn noteOff voiceEnded run doneBy noteCurve randomsSet alternates soundedOn ranksOn endedOf newestAfter marksOn marksEnded setNote setValue setGlide legatoTime endedNote arrives glideMoved heldBy drawVoices withVoices withAlternate withLimit putBases lookupOf position cellOf partOfCell reach moved slewStep step scrambled drawBits drawOf rowAt onRow keptAmount keptOutput clampTo finite ne neg toBits toUnsigned audioFrame audioFrames newAudio audioSum allPlain fromPart toPart isSounding absOf
-e11 = refl
 
 -- cases/diff-4-groups.txt
 r12 : Runner
@@ -738,27 +717,6 @@ e28 : reports c28 r28 ≡ (0 ∷ 0 ∷ 0 ∷ 0 ∷ 0 ∷ 0 ∷ 0 ∷ 0 ∷ 0 ∷
 unfolding c28 r28 process judged chunkSteps chunkStep tickOf turns turn newTo newFrom sourceAfter auxAfter putSlews fillFrom tickSum others plains offsets somePlain plain routeValue inputIn inGroup sounding inSpan planAt routeAt partOf sampleIn fill part onPart rowsOfChunk audioOf audioPlans glided movedHeld advanced joined moving movedValue movedGlide chunkTotal chunkOf loadBy activeCount drawRoutes putState putHeld putGlobals putValues putAudio withVelocity withKey withMarks withPhase withBlock withPrimed withGains withProgram withDraw marksCleared marksSwapped noMarks noVoices noNotes freshState emptyOf swapProgram compiled padded targetPlace verdict verdictsFrom verdicts candidates skippedOf inUse countedFeed usedDests feederOf readersOf reads hearsAudio isAudio controls audios planOrder order slewFor inputBy routeBy routeIn planBy plansOf allRoutes secondsOf ratePerSample namesTable anyNames slotNames hold max32 min32 isNan lt le eq add sub mul div ofInt setHeld setVoiceHeld setBase setAmount setOutput setVoiceLimit noteOn noteOff voiceEnded run doneBy noteCurve randomsSet alternates soundedOn ranksOn endedOf newestAfter marksOn marksEnded setNote setValue setGlide legatoTime endedNote arrives glideMoved heldBy drawVoices withVoices withAlternate withLimit putBases lookupOf position cellOf partOfCell reach moved slewStep step scrambled drawBits drawOf rowAt onRow keptAmount keptOutput clampTo finite ne neg toBits toUnsigned audioFrame audioFrames newAudio audioSum allPlain fromPart toPart isSounding absOf
 e28 = refl
 
--- cases/t14-lower-self-feeder.txt
-r29 : Runner
-r29 =
-    startWith (wiredAs (record { «sample_rate» = (fin false 1 (pos 6)); «max_frames» = 32; voices = 1 })
-    (source (K.Held) S.Global R.Unipolar ∷ source (K.Constant) S.Global R.Unipolar ∷ [])
-    (record { target = (A.Param 0); scope = S.Global; rate = T.Control; min = (inf true); max = (inf false); feed = (F.Source 0) } ∷ record { target = (A.Param 1); scope = S.Global; rate = T.Control; min = (inf true); max = (inf false); feed = (F.Source 0) } ∷ [])
-    (record { source = P.Source 0; «source_curve» = C.Linear; amount = (fin false 1 (pos 0)); polarity = Q.Unipolar; destination = M.At (A.Param 0); aux = P.Nothing; «aux_invert» = false; «aux_curve» = C.Linear; output = (fin false 1 (pos 0)); bypass = false } ∷ record { source = P.Source 1; «source_curve» = C.Linear; amount = (fin false 1 (pos 0)); polarity = Q.Unipolar; destination = M.At (A.Param 1); aux = P.Nothing; «aux_invert» = false; «aux_curve» = C.Linear; output = (fin false 1 (pos 0)); bypass = false } ∷ [])
-    N.Linear N.Linear false false)
-    (keptOf (wiredAs (record { «sample_rate» = (fin false 1 (pos 6)); «max_frames» = 32; voices = 1 })
-    (source (K.Held) S.Global R.Unipolar ∷ source (K.Constant) S.Global R.Unipolar ∷ [])
-    (record { target = (A.Param 0); scope = S.Global; rate = T.Control; min = (inf true); max = (inf false); feed = (F.Source 0) } ∷ record { target = (A.Param 1); scope = S.Global; rate = T.Control; min = (inf true); max = (inf false); feed = (F.Source 0) } ∷ [])
-    (record { source = P.Source 0; «source_curve» = C.Linear; amount = (fin false 1 (pos 0)); polarity = Q.Unipolar; destination = M.At (A.Param 0); aux = P.Nothing; «aux_invert» = false; «aux_curve» = C.Linear; output = (fin false 1 (pos 0)); bypass = false } ∷ record { source = P.Source 1; «source_curve» = C.Linear; amount = (fin false 1 (pos 0)); polarity = Q.Unipolar; destination = M.At (A.Param 1); aux = P.Nothing; «aux_invert» = false; «aux_curve» = C.Linear; output = (fin false 1 (pos 0)); bypass = false } ∷ [])
-    N.Linear N.Linear false false) [] ∷ [])
-
-c29 : List (List Call)
-c29 = ((swap 1) ∷ (block ([]) (record { part = [] }) 0 32) ∷ []) ∷ ((amount-set 1 (fin false 1 (negsuc 0))) ∷ (block ([]) (record { part = [] }) 0 32) ∷ []) ∷ []
-
-e29 : reports c29 r29 ≡ (1065353216 ∷ 1065353216 ∷ 1065353216 ∷ 1065353216 ∷ []) ∷ (1065353216 ∷ 1056964608 ∷ 1065353216 ∷ 1056964608 ∷ []) ∷ []
-unfolding c29 r29 process judged chunkSteps chunkStep tickOf turns turn newTo newFrom sourceAfter auxAfter putSlews fillFrom tickSum others plains offsets somePlain plain routeValue inputIn inGroup sounding inSpan planAt routeAt partOf sampleIn fill part onPart rowsOfChunk audioOf audioPlans glided movedHeld advanced joined moving movedValue movedGlide chunkTotal chunkOf loadBy activeCount drawRoutes putState putHeld putGlobals putValues putAudio withVelocity withKey withMarks withPhase withBlock withPrimed withGains withProgram withDraw marksCleared marksSwapped noMarks noVoices noNotes freshState emptyOf swapProgram compiled padded targetPlace verdict verdictsFrom verdicts candidates skippedOf inUse countedFeed usedDests feederOf readersOf reads hearsAudio isAudio controls audios planOrder order slewFor inputBy routeBy routeIn planBy plansOf allRoutes secondsOf ratePerSample namesTable anyNames slotNames hold max32 min32 isNan lt le eq add sub mul div ofInt setHeld setVoiceHeld setBase setAmount setOutput setVoiceLimit noteOn noteOff voiceEnded run doneBy noteCurve randomsSet alternates soundedOn ranksOn endedOf newestAfter marksOn marksEnded setNote setValue setGlide legatoTime endedNote arrives glideMoved heldBy drawVoices withVoices withAlternate withLimit putBases lookupOf position cellOf partOfCell reach moved slewStep step scrambled drawBits drawOf rowAt onRow keptAmount keptOutput clampTo finite ne neg toBits toUnsigned audioFrame audioFrames newAudio audioSum allPlain fromPart toPart isSounding absOf
-e29 = refl
-
 -- cases/t15-self-feed-reinstalled.txt
 r30 : Runner
 r30 =
@@ -1005,48 +963,6 @@ c40 = ((swap 1) ∷ (note-on 0 (record { key = (fin false 0 (pos 0)); velocity =
 e40 : reports c40 r40 ≡ ([]) ∷ ([]) ∷ ([]) ∷ ([]) ∷ ([]) ∷ ([]) ∷ ([]) ∷ ([]) ∷ ([]) ∷ ([]) ∷ ([]) ∷ ([]) ∷ ([]) ∷ ([]) ∷ ([]) ∷ ([]) ∷ ([]) ∷ ([]) ∷ ([]) ∷ ([]) ∷ ([]) ∷ ([]) ∷ ([]) ∷ ([]) ∷ ([]) ∷ ([]) ∷ ([]) ∷ ([]) ∷ ([]) ∷ ([]) ∷ ([]) ∷ ([]) ∷ ([]) ∷ ([]) ∷ ([]) ∷ ([]) ∷ ([]) ∷ ([]) ∷ ([]) ∷ ([]) ∷ ([]) ∷ ([]) ∷ ([]) ∷ ([]) ∷ ([]) ∷ ([]) ∷ ([]) ∷ ([]) ∷ ([]) ∷ ([]) ∷ ([]) ∷ ([]) ∷ ([]) ∷ ([]) ∷ ([]) ∷ ([]) ∷ ([]) ∷ ([]) ∷ ([]) ∷ ([]) ∷ ([]) ∷ ([]) ∷ ([]) ∷ ([]) ∷ ([]) ∷ ([]) ∷ ([]) ∷ ([]) ∷ ([]) ∷ ([]) ∷ ([]) ∷ ([]) ∷ ([]) ∷ ([]) ∷ ([]) ∷ ([]) ∷ ([]) ∷ ([]) ∷ ([]) ∷ ([]) ∷ ([]) ∷ ([]) ∷ ([]) ∷ ([]) ∷ ([]) ∷ ([]) ∷ ([]) ∷ ([]) ∷ ([]) ∷ ([]) ∷ ([]) ∷ ([]) ∷ ([]) ∷ ([]) ∷ ([]) ∷ ([]) ∷ ([]) ∷ ([]) ∷ ([]) ∷ ([]) ∷ ([]) ∷ ([]) ∷ ([]) ∷ ([]) ∷ ([]) ∷ ([]) ∷ ([]) ∷ ([]) ∷ ([]) ∷ ([]) ∷ ([]) ∷ ([]) ∷ ([]) ∷ ([]) ∷ ([]) ∷ ([]) ∷ ([]) ∷ ([]) ∷ ([]) ∷ ([]) ∷ ([]) ∷ ([]) ∷ ([]) ∷ ([]) ∷ ([]) ∷ ([]) ∷ ([]) ∷ (1066308341 ∷ 0 ∷ 0 ∷ 0 ∷ 0 ∷ 0 ∷ 0 ∷ 0 ∷ 0 ∷ 0 ∷ 0 ∷ 0 ∷ 0 ∷ 0 ∷ 0 ∷ 0 ∷ 1066308341 ∷ 0 ∷ 0 ∷ 0 ∷ 0 ∷ 0 ∷ 0 ∷ 0 ∷ 0 ∷ 0 ∷ 0 ∷ 0 ∷ 0 ∷ 0 ∷ 0 ∷ 0 ∷ []) ∷ []
 unfolding c40 r40 process judged chunkSteps chunkStep tickOf turns turn newTo newFrom sourceAfter auxAfter putSlews fillFrom tickSum others plains offsets somePlain plain routeValue inputIn inGroup sounding inSpan planAt routeAt partOf sampleIn fill part onPart rowsOfChunk audioOf audioPlans glided movedHeld advanced joined moving movedValue movedGlide chunkTotal chunkOf loadBy activeCount drawRoutes putState putHeld putGlobals putValues putAudio withVelocity withKey withMarks withPhase withBlock withPrimed withGains withProgram withDraw marksCleared marksSwapped noMarks noVoices noNotes freshState emptyOf swapProgram compiled padded targetPlace verdict verdictsFrom verdicts candidates skippedOf inUse countedFeed usedDests feederOf readersOf reads hearsAudio isAudio controls audios planOrder order slewFor inputBy routeBy routeIn planBy plansOf allRoutes secondsOf ratePerSample namesTable anyNames slotNames hold max32 min32 isNan lt le eq add sub mul div ofInt setHeld setVoiceHeld setBase setAmount setOutput setVoiceLimit noteOn noteOff voiceEnded run doneBy noteCurve randomsSet alternates soundedOn ranksOn endedOf newestAfter marksOn marksEnded setNote setValue setGlide legatoTime endedNote arrives glideMoved heldBy drawVoices withVoices withAlternate withLimit putBases lookupOf position cellOf partOfCell reach moved slewStep step scrambled drawBits drawOf rowAt onRow keptAmount keptOutput clampTo finite ne neg toBits toUnsigned audioFrame audioFrames newAudio audioSum allPlain fromPart toPart isSounding absOf
 e40 = refl
-
--- cases/t28-plain-offsets-summed-first.txt
-r41 : Runner
-r41 =
-    startWith (wiredAs (record { «sample_rate» = (fin false 1 (pos 6)); «max_frames» = 32; voices = 1 })
-    (source (K.Held) S.Voice R.Bipolar ∷ [])
-    (record { target = (A.Param 0); scope = S.Voice; rate = T.Control; min = (inf true); max = (inf false); feed = F.Nothing } ∷ [])
-    (record { source = P.Source 0; «source_curve» = C.Linear; amount = (fin false 1 (negsuc 22)); polarity = Q.Unipolar; destination = M.At (A.Param 0); aux = P.Nothing; «aux_invert» = false; «aux_curve» = C.Linear; output = (fin false 1 (pos 0)); bypass = false } ∷ record { source = P.Source 0; «source_curve» = C.Linear; amount = (fin false 1 (negsuc 22)); polarity = Q.Unipolar; destination = M.At (A.Param 0); aux = P.Nothing; «aux_invert» = false; «aux_curve» = C.Linear; output = (fin false 1 (pos 0)); bypass = false } ∷ [])
-    N.Linear N.Linear false false)
-    (keptOf (wiredAs (record { «sample_rate» = (fin false 1 (pos 6)); «max_frames» = 32; voices = 1 })
-    (source (K.Held) S.Voice R.Bipolar ∷ [])
-    (record { target = (A.Param 0); scope = S.Voice; rate = T.Control; min = (inf true); max = (inf false); feed = F.Nothing } ∷ [])
-    (record { source = P.Source 0; «source_curve» = C.Linear; amount = (fin false 1 (negsuc 22)); polarity = Q.Unipolar; destination = M.At (A.Param 0); aux = P.Nothing; «aux_invert» = false; «aux_curve» = C.Linear; output = (fin false 1 (pos 0)); bypass = false } ∷ record { source = P.Source 0; «source_curve» = C.Linear; amount = (fin false 1 (negsuc 22)); polarity = Q.Unipolar; destination = M.At (A.Param 0); aux = P.Nothing; «aux_invert» = false; «aux_curve» = C.Linear; output = (fin false 1 (pos 0)); bypass = false } ∷ [])
-    N.Linear N.Linear false false) [] ∷ [])
-
-c41 : List (List Call)
-c41 = ((swap 1) ∷ (base-set 0 (fin false 1 (pos 0))) ∷ (note-on 0 (record { key = (fin false 15 (pos 2)); velocity = (fin false 1 (pos 0)); legato = false; glide-seconds = (fin false 0 (pos 0)) })) ∷ (block ([]) (record { part = [] }) 0 32) ∷ []) ∷ []
-
-e41 : reports c41 r41 ≡ (1065353217 ∷ 1065353217 ∷ 1065353217 ∷ 1065353217 ∷ 1065353217 ∷ 1065353217 ∷ 1065353217 ∷ 1065353217 ∷ 1065353217 ∷ 1065353217 ∷ 1065353217 ∷ 1065353217 ∷ 1065353217 ∷ 1065353217 ∷ 1065353217 ∷ 1065353217 ∷ 1065353217 ∷ 1065353217 ∷ 1065353217 ∷ 1065353217 ∷ 1065353217 ∷ 1065353217 ∷ 1065353217 ∷ 1065353217 ∷ 1065353217 ∷ 1065353217 ∷ 1065353217 ∷ 1065353217 ∷ 1065353217 ∷ 1065353217 ∷ 1065353217 ∷ 1065353217 ∷ []) ∷ []
-unfolding c41 r41 process judged chunkSteps chunkStep tickOf turns turn newTo newFrom sourceAfter auxAfter putSlews fillFrom tickSum others plains offsets somePlain plain routeValue inputIn inGroup sounding inSpan planAt routeAt partOf sampleIn fill part onPart rowsOfChunk audioOf audioPlans glided movedHeld advanced joined moving movedValue movedGlide chunkTotal chunkOf loadBy activeCount drawRoutes putState putHeld putGlobals putValues putAudio withVelocity withKey withMarks withPhase withBlock withPrimed withGains withProgram withDraw marksCleared marksSwapped noMarks noVoices noNotes freshState emptyOf swapProgram compiled padded targetPlace verdict verdictsFrom verdicts candidates skippedOf inUse countedFeed usedDests feederOf readersOf reads hearsAudio isAudio controls audios planOrder order slewFor inputBy routeBy routeIn planBy plansOf allRoutes secondsOf ratePerSample namesTable anyNames slotNames hold max32 min32 isNan lt le eq add sub mul div ofInt setHeld setVoiceHeld setBase setAmount setOutput setVoiceLimit noteOn noteOff voiceEnded run doneBy noteCurve randomsSet alternates soundedOn ranksOn endedOf newestAfter marksOn marksEnded setNote setValue setGlide legatoTime endedNote arrives glideMoved heldBy drawVoices withVoices withAlternate withLimit putBases lookupOf position cellOf partOfCell reach moved slewStep step scrambled drawBits drawOf rowAt onRow keptAmount keptOutput clampTo finite ne neg toBits toUnsigned audioFrame audioFrames newAudio audioSum allPlain fromPart toPart isSounding absOf
-e41 = refl
-
--- cases/t29-scaled-gain-underflow.txt
-r42 : Runner
-r42 =
-    startWith (wiredAs (record { «sample_rate» = (fin false 1 (pos 6)); «max_frames» = 32; voices = 1 })
-    (source (K.Held) S.Voice R.Bipolar ∷ [])
-    (record { target = (A.Param 0); scope = S.Voice; rate = T.Control; min = (inf true); max = (inf false); feed = F.Nothing } ∷ [])
-    (record { source = P.Source 0; «source_curve» = C.Linear; amount = (fin false 3 (negsuc 148)); polarity = Q.Unipolar; destination = M.At (A.Param 0); aux = P.Nothing; «aux_invert» = false; «aux_curve» = C.Linear; output = (fin false 1 (pos 0)); bypass = false } ∷ [])
-    N.Linear N.Linear false false)
-    (keptOf (wiredAs (record { «sample_rate» = (fin false 1 (pos 6)); «max_frames» = 32; voices = 1 })
-    (source (K.Held) S.Voice R.Bipolar ∷ [])
-    (record { target = (A.Param 0); scope = S.Voice; rate = T.Control; min = (inf true); max = (inf false); feed = F.Nothing } ∷ [])
-    (record { source = P.Source 0; «source_curve» = C.Linear; amount = (fin false 3 (negsuc 148)); polarity = Q.Unipolar; destination = M.At (A.Param 0); aux = P.Nothing; «aux_invert» = false; «aux_curve» = C.Linear; output = (fin false 1 (pos 0)); bypass = false } ∷ [])
-    N.Linear N.Linear false false) [] ∷ [])
-
-c42 : List (List Call)
-c42 = ((swap 1) ∷ (held-set 0 (fin false 1 (pos 1))) ∷ (note-on 0 (record { key = (fin false 15 (pos 2)); velocity = (fin false 1 (pos 0)); legato = false; glide-seconds = (fin false 0 (pos 0)) })) ∷ (block ([]) (record { part = [] }) 0 32) ∷ []) ∷ []
-
-e42 : reports c42 r42 ≡ (6 ∷ 6 ∷ 6 ∷ 6 ∷ 6 ∷ 6 ∷ 6 ∷ 6 ∷ 6 ∷ 6 ∷ 6 ∷ 6 ∷ 6 ∷ 6 ∷ 6 ∷ 6 ∷ 6 ∷ 6 ∷ 6 ∷ 6 ∷ 6 ∷ 6 ∷ 6 ∷ 6 ∷ 6 ∷ 6 ∷ 6 ∷ 6 ∷ 6 ∷ 6 ∷ 6 ∷ 6 ∷ []) ∷ []
-unfolding c42 r42 process judged chunkSteps chunkStep tickOf turns turn newTo newFrom sourceAfter auxAfter putSlews fillFrom tickSum others plains offsets somePlain plain routeValue inputIn inGroup sounding inSpan planAt routeAt partOf sampleIn fill part onPart rowsOfChunk audioOf audioPlans glided movedHeld advanced joined moving movedValue movedGlide chunkTotal chunkOf loadBy activeCount drawRoutes putState putHeld putGlobals putValues putAudio withVelocity withKey withMarks withPhase withBlock withPrimed withGains withProgram withDraw marksCleared marksSwapped noMarks noVoices noNotes freshState emptyOf swapProgram compiled padded targetPlace verdict verdictsFrom verdicts candidates skippedOf inUse countedFeed usedDests feederOf readersOf reads hearsAudio isAudio controls audios planOrder order slewFor inputBy routeBy routeIn planBy plansOf allRoutes secondsOf ratePerSample namesTable anyNames slotNames hold max32 min32 isNan lt le eq add sub mul div ofInt setHeld setVoiceHeld setBase setAmount setOutput setVoiceLimit noteOn noteOff voiceEnded run doneBy noteCurve randomsSet alternates soundedOn ranksOn endedOf newestAfter marksOn marksEnded setNote setValue setGlide legatoTime endedNote arrives glideMoved heldBy drawVoices withVoices withAlternate withLimit putBases lookupOf position cellOf partOfCell reach moved slewStep step scrambled drawBits drawOf rowAt onRow keptAmount keptOutput clampTo finite ne neg toBits toUnsigned audioFrame audioFrames newAudio audioSum allPlain fromPart toPart isSounding absOf
-e42 = refl
 
 -- cases/t30-scaled-gain-overflow.txt
 r43 : Runner

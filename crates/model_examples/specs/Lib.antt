@@ -1,0 +1,2 @@
+mod CompiledExamples
+mod SessionExamples
