@@ -2,9 +2,13 @@
 """decimals.py N PROGRAM..
 
 Holds how each PROGRAM (target/bin/trace, target/release/oracle) reads decimals to docs/SESSIONS.md (How a line reads), worked
-out here with exact fractions: N sessions that set 1,000 bases each to random decimals and print their bits; words that are no
-decimals, or lie outside what is read, each of which must end its session. Prints counts; exit 1 where anything differs.
+out here with exact fractions: N sessions that set 500 bases to random decimals and 500 to what
+tools/in_decimals shows of random bits, and print their bits; of those shown, no decimal with a digit less may have the bits;
+words that are no decimals, or lie outside what is read, each of which must end its session. Prints counts; exit 1 where
+anything differs.
 """
+import importlib.machinery
+import importlib.util
 import os
 import random
 import re
@@ -14,7 +18,9 @@ from fractions import Fraction
 import compare
 import owed
 
-BASES = 1000
+TOOL = os.path.join(os.path.dirname(os.path.dirname(os.path.abspath(__file__))), "tools", "in_decimals")
+
+BASES = 500
 WORD = re.compile(r"[+-]?(?:(\d+)(?:\.(\d*))?|\.(\d+))(?:[eE]([+-]?\d+))?")
 
 
@@ -91,17 +97,68 @@ def wrong_words(r):
             yield bad
 
 
+def tool():
+    """tools/in_decimals as a module."""
+    loader = importlib.machinery.SourceFileLoader("in_decimals", TOOL)
+    module = importlib.util.module_from_spec(importlib.util.spec_from_loader("in_decimals", loader))
+    loader.exec_module(module)
+    return module
+
+
+def finite_bits(r):
+    """The bits of a finite binary32: any, one beside a power of two, one that a few decimal digits say, one of a size
+    that presets have."""
+    how = r.randrange(4)
+    if how == 0:
+        bits = r.randrange(0x7F800000)
+    elif how == 1:
+        bits = max(0, (r.randrange(256) << 23) + r.randrange(-2, 3))
+    elif how == 2:
+        bits = owed.bits_of("%d.%se%d" % (r.randrange(10), digits(r, 3), r.randrange(-9, 9)))
+    else:
+        bits = r.randrange(0x38000000, 0x48000000)
+    return min(bits, 0x7F7FFFFF) | r.choice([0, 0, 0x80000000])
+
+
+def around(n, power):
+    """The bits that three decimals around n round to, whose last digit counts 10 ^ power."""
+    unit = Fraction(10) ** power
+    return [owed.nearest(k * unit) for k in range(max(0, round(n / unit) - 1), round(n / unit) + 2)]
+
+
+def is_shown(word, said):
+    """Whether what is shown of a finite number is a decimal of its bits that is read, and none with a digit less is; or
+    the number has no such decimal, and stays as it was."""
+    bits = int(word, 16) & 0x7FFFFFFF
+    n = Fraction(owed.of_bits(bits))
+    if said == word:
+        return n > 2 ** 64 or bits not in around(n, -17)
+    if not is_read(said) or owed.bits_of(said) != int(word, 16) or re.fullmatch("[0-9A-Fa-f]{8}", said):
+        return False
+    mantissa, _, power = said.lower().lstrip("-").partition("e")
+    whole, _, part = mantissa.partition(".")
+    last = int(power or 0) - len(part.rstrip("0")) + (len(whole) - len(whole.rstrip("0")) if not part.strip("0") else 0)
+    return bits == 0 or bits not in around(n, last + 1)
+
+
 def main():
     if len(sys.argv) < 3 or not sys.argv[1].isdigit():
         sys.exit(__doc__)
     programs = [os.path.abspath(p) for p in sys.argv[2:]]
-    r, bad, read, ended = random.Random(2019), 0, 0, 0
+    r, bad, read, ended, shown = random.Random(2019), 0, 0, 0, tool().shown
     for _ in range(int(sys.argv[1])):
         words = [good(r) for _ in range(BASES)]
         want = ["%08X" % owed.bits_of(w) for w in words]
+        bits = ["%08X" % finite_bits(r) for _ in range(BASES)]
+        said = [shown(w) for w in bits]
+        for w, x in zip(bits, said):
+            if not is_shown(w, x):
+                bad += 1
+                print("%s is shown as %s" % (w, x))
+        words, want = words + said, want + bits
         for program in programs:
             got = bases(compare.run(program, session(words))[1])
-            for w, x, y in zip(words, want, got + ["nothing"] * BASES):
+            for w, x, y in zip(words, want, got + ["nothing"] * len(words)):
                 if x != y:
                     bad += 1
                     print("%s: %s is %s, not %s" % (program, w, x, y))

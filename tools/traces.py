@@ -1,11 +1,13 @@
-"""What ./plot and ./collate share: the numbers of sessions and traces, printed traces call by call, and the session
-beside a trace."""
+"""What ./plot, ./collate and ./trace --decimal share: the numbers of sessions and traces, printed traces call by call,
+and the session beside a trace."""
 import math
 import os
 import re
 import struct
 
 PERIOD = 32
+# as many lanes as a row can have
+MOST_VOICES = 64
 BITS = re.compile(r"[0-9A-Fa-f]{8}\Z")
 DECIMAL = re.compile(r"[+-]?(?:\d+\.?\d*|\.\d+)(?:[eE][+-]?\d+)?\Z")
 # a line that no trace has: neither `@LINE call` nor an answer, which begins with a word in capitals
@@ -16,6 +18,14 @@ MODES = ("full", ("\nTO ", "\nA ")), ("hash", ("\nHC ", "\nHA ")), ("cases", ("\
 ENDING = re.compile(r"^((?:ERROR|TOO LARGE) line )\d+")
 # a comment that names the target of a destination
 NAMING = re.compile(r"#+\s*(p:\d+|l:\d+:\d+):\s+(\S.*)")
+
+# how many words make the name of an answer's line, and from which word on it has numbers
+ROWS = {"FROM": (3, 4), "TO": (3, 4), "A": (3, 4), "D": (3, 6), "LATEST": (3, 3), "RAMP": (3, 3), "ALL": (1, 3),
+        **dict.fromkeys(("CHUNK", "HC", "HA", "PLAN", "ROUTE", "SKIP", "ENTRY"), (2, 99))}
+# the same of lines S and M, by their second word
+KEPT = {**dict.fromkeys(("heldglobal", "base", "amounts", "outputs"), (2, 2)),
+        **dict.fromkeys(("held", "notevalue", "target", "step", "from", "cur"), (3, 3)),
+        **dict.fromkeys(("slew", "random"), (4, 4))}
 
 
 class Bad(Exception):
@@ -88,6 +98,23 @@ def steps(a, b):
 
 def grouped_digits(n):
     return format(n, ",")
+
+
+# ---- the words of an answer
+
+
+def form_of(w):
+    """How many words name an answer's line, and from which word on it has numbers."""
+    if w[0] in ("S", "M") and len(w) > 1:
+        return KEPT.get(w[1], (2, len(w)))
+    return ROWS.get(w[0], (1, len(w)))
+
+
+def is_number(w, k):
+    """Whether word k of an answer is a binary32."""
+    if w[0] in ("PLAN", "ROUTE"):
+        return w[k - 1] in ("min", "max", "affine") or w[k - 2] == "affine"
+    return k >= form_of(w)[1] and BITS.match(w[k]) is not None
 
 
 # ---- files
