@@ -1,19 +1,19 @@
 -- The draw is exact. `HasValue x false n d` (lib.Ieee.Exact) says that the float x is a finite number, that its sign is plus, and that it is n / d, no more and no less:
--- x is m * 2 ^ e, and m * 2 ^ e * d equals n. So neither the conversion of the 24 bits nor the division rounds anything. Assumes nothing.
+-- x is m * 2 ^ e, and m * 2 ^ e * d equals n. So neither the conversion of the 24 bits nor the division rounds anything (number: proofs/Exact.antt). Assumes nothing.
 use mathlib.Core.Path.{_≡_, refl, sym, subst}
 use mathlib.Core.Bool.{true, false}
 use Prim.Native.Nat.{ℕ, _*_, _^_, _<_}
-use native.Mathlib.Nat.{mul-one, mul-assoc, mul-left-comm, lt-of-lt-of-le, mul-lt-mul-of-pos-right}
+use native.Mathlib.Nat.{le-of-lt, mul-lt-mul-of-pos-right}
 use native.Mathlib.Omega.{arith}
-use lib.Pow.{pow-pos}
 use lib.IntN.{pos}
-use lib.Dec.{T, lit<, lit≤, lt→ltb, ltb→lt, not-T}
+use lib.Dec.{T, lit<, lt→ltb, ltb→lt, not-T}
 use lib.Ieee.{Float, nan, inf, fin, binary32, div, ofInt, up, down, lt, le, fits}
 use lib.Ieee.Bits.{is-true, is-false}
-use lib.Ieee.Exact.{HasValue, round-exact}
-use lib.Ieee.Scale.{round-same, finite}
+use lib.Ieee.Exact.{HasValue}
+use lib.Ieee.Scale.{finite}
 use lib.Ieee.Order.{le-of-values}
 use lib.Ieee.Fits.{down-pos, div-fits}
+use Rattle.number.proofs.Exact.{whole-exact, over-exact}
 use Rattle.draw.specs.Xorshift.{drawBits, drawOf}
 use Rattle.draw.proofs.State.{drawBits-below}
 
@@ -22,28 +22,11 @@ pub divisor : ofInt binary32 (pos 16777216) ≡ fin false 1 (pos 24)
 unfolding ofInt
 divisor = refl
 
--- a whole number below 2 ^ 24 as binary32
-pub whole-exact : (n : ℕ) → n < 2 ^ 24 → HasValue (ofInt binary32 (pos n)) false n 1
-unfolding ofInt
-whole-exact n h =
-    round-exact binary32 false n 1 n 149 (lit< tt) h (lt-of-lt-of-le (mul-lt-mul-of-pos-right h (pow-pos 149)) (lit≤ tt)) (sym (mul-one (n * 2 ^ 149)))
-
-over : (x : Float) (n : ℕ) → n < 2 ^ 24 → HasValue x false n 1 → HasValue (div binary32 x (fin false 1 (pos 24))) false n (2 ^ 24)
-unfolding div
-over nan n h v = absurd v
-over (inf s) n h v = absurd v
-over (fin true m e) n h v = absurd (subst T (v .0) tt)
-over (fin false m e) n h v =
-    let same : m * up e * 1 * 2 ^ 24 ≡ n * (2 ^ 24 * down e) = omega (arith, v .1, mul-left-comm n (2 ^ 24) (down e)) in
-    let moved = round-same binary32 false (m * up e * 1) (2 ^ 24 * down e) n (2 ^ 24) (omega (arith, down-pos e)) (lit< tt) same in
-    subst (λ (z : Float). HasValue z false n (2 ^ 24)) (sym moved)
-    (round-exact binary32 false n (2 ^ 24) n 125 (lit< tt) h (lt-of-lt-of-le (mul-lt-mul-of-pos-right h (pow-pos 125)) (lit≤ tt)) (sym (mul-assoc n (2 ^ 125) (2 ^ 24))))
-
--- such a number divided by 16,777,216
+-- a whole number below 2 ^ 24 divided by 16,777,216
 pub quotient-exact : (n : ℕ) → n < 2 ^ 24 → HasValue (div binary32 (ofInt binary32 (pos n)) (ofInt binary32 (pos 16777216))) false n (2 ^ 24)
 quotient-exact n h =
     subst (λ (d : Float). HasValue (div binary32 (ofInt binary32 (pos n)) d) false n (2 ^ 24)) (sym divisor)
-    (over (ofInt binary32 (pos n)) n h (whole-exact n h))
+    (over-exact (ofInt binary32 (pos n)) n 24 (le-of-lt h) (omega arith) (whole-exact n (le-of-lt h)))
 
 -- the number drawn is its 24 bits over 2 ^ 24
 pub draw-exact : (x : ℕ) → HasValue (drawOf x) false (drawBits x) (2 ^ 24)

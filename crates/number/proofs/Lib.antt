@@ -3,3 +3,4 @@ pub mod Nearest
 pub mod Same
 pub mod Respects
 pub mod MaxMin
+pub mod Exact
