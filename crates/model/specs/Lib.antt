@@ -27,5 +27,7 @@ pub mod Calls
 pub mod Rule
 pub mod Model
 pub mod Claim
+pub mod Said
+pub mod Instants
 mod SmallSessions
 mod ClaimExamples

@@ -1,2 +1,3 @@
 mod CompiledExamples
 mod SessionExamples
+mod SaidExamples
