@@ -16,13 +16,15 @@ everything printed afterwards is that of an engine that never saw the refused ca
 The Rust's own buffer offsets (PLAN at, out; ROUTE curve, slew, fed and rnd offsets;
 PROGRAM luts, slew, random), its clock, its count of gliding values and its note counters are
 left out of the comparison, and so are `state` and `memory` lines, unless PROGRAM prints
-them. One generated session in eight has a word that is no command, at which both must end with
-`ERROR line N`. A session for which PROGRAM prints a line that begins `TOO LARGE` (it has no heap, and
-says how much memory it has) is compared up to that line, and counted apart. PROGRAM's last line must be
-`END n lines`, n being the lines before it.
+them. One generated session in eight has a line that is not of the grammar, at which both must end with
+the same line `ERROR line N: ..`. A session for which PROGRAM prints a line that begins `TOO LARGE` (it has
+no heap, and says how much memory it has) is compared up to that line, and counted apart. PROGRAM's last
+line must be `END n lines`, n being the lines before it.
 
 --clean            sessions without refused calls
 --refused          sessions with refused calls of rows 6, 13 and 14 put in
+--damaged          every generated session with bytes changed, words dropped, doubled, misspelt or moved, lines cut,
+                   dropped or doubled; compared up to a call at which the Rust panics
 --print full|hash  the print mode of generated sessions (hash)
 --only WORD,WORD   compare what these commands print and nothing else
 --keep DIR         keep the sessions that differ
@@ -65,6 +67,12 @@ def stop_of(text):
     return (m[1], int(m[2])) if m else None
 
 
+def fault_of(text):
+    """The line by which a session ended, where it is not of the format or names what is not there; or None."""
+    m = re.search(r"^ERROR line .*$", text, re.M)
+    return m and m[0]
+
+
 def is_whole(text):
     """Whether the last line says how many lines stand before it."""
     lines = text.split("\n")
@@ -88,13 +96,15 @@ def without(text, refused):
     return "\n".join("# " + l if n in refused else l for n, l in enumerate(text.split("\n"), 1))
 
 
-def run(binary, text):
-    p = subprocess.run([binary], input=text.encode(), stdout=subprocess.PIPE, stderr=subprocess.DEVNULL, timeout=3600)
+def run(binary, text, seconds=3600):
+    data = text.encode("utf-8", "surrogateescape")
+    p = subprocess.run([binary], input=data, stdout=subprocess.PIPE, stderr=subprocess.DEVNULL, timeout=seconds)
     return p.returncode, p.stdout.decode("ascii", "replace")
 
 
-def difference(text, refused, want, got, only=None):
-    """The first line at which PROGRAM's output is not what is owed: number, line, what is owed, what it printed."""
+def difference(text, refused, want, got, only=None, past_panics=False):
+    """The first line at which PROGRAM's output is not what is owed: number, line, what is owed, what it printed.
+    With past_panics nothing is compared from the first call on at which the Rust panics."""
     a, b, said, other = blocks(want), blocks(got), owed.stated(text), owed.answers(text)
     ends, stop = stop_of(want), stop_of(got)
     if not is_whole(got):
@@ -103,7 +113,9 @@ def difference(text, refused, want, got, only=None):
         if stop and stop[0] == "TOO LARGE" and n >= stop[1]:
             return None
         if (n,) in (ends and ends[1:], stop and stop[1:]):
-            return None if ends == stop else (n, line, [ends], [stop])
+            return None if fault_of(want) == fault_of(got) else (n, line, [fault_of(want)], [fault_of(got) or stop])
+        if n not in refused and a.get(n, [])[-1:] == ["PANIC"] and n not in other and past_panics:
+            return None
         w = line.split()
         if not w or w[0].startswith("#"):
             continue
@@ -137,6 +149,7 @@ def main():
     a.add_argument("--rows", action="store_true")
     a.add_argument("--clean", action="store_true")
     a.add_argument("--refused", action="store_true")
+    a.add_argument("--damaged", action="store_true")
     a.add_argument("--print", dest="mode", default="hash")
     a.add_argument("--only")
     a.add_argument("--keep")
@@ -148,18 +161,20 @@ def main():
     t0 = time.time()
     for name, text in sessions:
         seeded = text is None
-        text = text or gen.broken(gen.session(int(name), o.clean, o.mode, o.refused), int(name))
-        refused = owed.owed(text)
-        rc, want = run(ORACLE, without(text, refused))
-        rc2, got = run(program, text)
+        text = text or (gen.damaged if o.damaged else gen.broken)(gen.session(int(name), o.clean, o.mode, o.refused), int(name))
+        rc2, got = run(program, text, 60 if o.damaged else 3600)
+        stop = stop_of(got)
+        refused = owed.owed(text, stop and stop[1])
+        body = "\n".join(text.split("\n")[:stop[1] - 1]) if stop and stop[0] == "TOO LARGE" else text
+        rc, want = run(ORACLE, without(body, refused))
         count += 1
-        large += (stop_of(got) or ("",))[0] == "TOO LARGE"
-        d = difference(text, refused, want, got, o.only and o.only.split(","))
+        large += bool(stop) and stop[0] == "TOO LARGE"
+        d = difference(text, refused, want, got, o.only and o.only.split(","), o.damaged)
         if rc != (2 if stop_of(want) else 0) or rc2 or d:
             bad += 1
             print("%s: exit %d and %d, first difference %s" % (name, rc, rc2, d))
             if o.keep and seeded:
-                with open(os.path.join(o.keep, name + ".txt"), "w") as f:
+                with open(os.path.join(o.keep, name + ".txt"), "w", errors="surrogateescape") as f:
                     f.write(text)
             if bad >= 10:
                 break

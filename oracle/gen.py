@@ -779,19 +779,52 @@ def session(seed, clean=False, mode=None, refused=False):
     return with_refused(seed, text) if refused else text
 
 
+def misspelt(r, w):
+    """The word with a letter less or doubled, in capitals, with a byte before, behind or in it, or noise."""
+    k = r.randrange(len(w))
+    return r.choice([w[:k] + w[k + 1:], w[:k] + w[k] + w[k:], w.upper(), "\ufeff" + w, w + "_", w[:k] + "?" + w[k:], "%x" % r.getrandbits(60)])
+
+
 def broken(text, seed):
-    """The session, in one of eight with a line whose first word is no command: misspelt, doubled, in capitals, with a byte before it, or noise."""
+    """The session, in one of eight with a line that is not of the grammar put in: a first word that is no command, a word
+    too few, one too many, or a word that is misspelt."""
     r = random.Random("broken %d" % seed)
     if r.randrange(8):
         return text
     lines = text.split("\n")
     i = r.choice([i for i in range(len(lines)) if not i or not lines[i - 1].startswith("#=")])
-    words = [l.split()[0] for l in lines if l.split() and not l.startswith("#")]
-    w = r.choice(words)
-    k = r.randrange(len(w))
-    bad = r.choice([w[:k] + w[k + 1:], w[:k] + w[k] + w[k:], w.upper(), "\ufeff" + w, w + "_", w[:k] + "?" + w[k:], "%x" % r.getrandbits(60)])
-    rest = r.choice(["", " 0", " 0 00000000", " " + " ".join(lines[i].split()[1:])])
-    return "\n".join(lines[:i] + [(bad if bad and bad not in words and bad[0] != "#" else "x" + w) + rest] + lines[i:])
+    calls = [l.split() for l in lines if l.split() and not l.startswith("#")]
+    words, w = [c[0] for c in calls], list(r.choice(calls))
+    if r.randrange(2):
+        bad = misspelt(r, w[0])
+        rest = r.choice([[], ["0"], ["0", "00000000"], lines[i].split()[1:]])
+        w = [bad if bad and bad not in words and bad[0] != "#" else "x" + w[0]] + rest
+    elif len(w) == 1 or not r.randrange(3):
+        w.append("x")
+    else:
+        k = r.randrange(1, len(w))
+        w = r.choice([w[:k] + w[k + 1:], w[:k] + [misspelt(r, w[k]) or "x"] + w[k + 1:], w[:k] + ["x"] + w[k + 1:]])
+    return "\n".join(lines[:i] + [" ".join(w)] + lines[i:])
+
+
+def damaged(text, seed):
+    """The session with one to four things damaged: a byte changed, put in or taken out, a word dropped, doubled, misspelt or
+    put elsewhere, a line cut, dropped or doubled. Bytes that are no text are as Python's surrogateescape has them."""
+    r = random.Random("damaged %d" % seed)
+    lines = text.split("\n")
+    for _ in range(r.randrange(1, 5)):
+        i = r.randrange(len(lines))
+        l, w = lines[i], lines[i].split()
+        k, j = r.randrange(len(l) + 1), r.randrange(len(w) + 1)
+        byte = bytes([r.choice([r.randrange(256), r.randrange(33, 127)])]).decode("utf-8", "surrogateescape")
+        other = r.choice(lines).split() or ["x"]
+        lines[i] = r.choice([
+            lambda: l[:k] + byte + l[k + 1:], lambda: l[:k] + byte + l[k:], lambda: l[:k] + l[k + 1:], lambda: l[:k],
+            lambda: " ".join(w[:j] + w[j + 1:]), lambda: " ".join(w[:j] + w[j:j + 1] + w[j:]),
+            lambda: " ".join(w[:j] + [misspelt(r, x) for x in w[j:j + 1]] + w[j + 1:]),
+            lambda: " ".join(w[:j] + [r.choice(other)] + w[j + 1:]), lambda: " ".join(w[:j] + [r.choice(other)] + w[j:]),
+            lambda: "", lambda: l + "\n" + l, lambda: "\n".join([l, " ".join(other)])])()
+    return "\n".join(lines)
 
 
 def with_refused(seed, text):

@@ -346,10 +346,10 @@ class Owed:
         return row
 
 
-def owed(text):
-    """Line number to owed number, for a whole session."""
+def owed(text, end=None):
+    """Line number to owed number, for a whole session, or for the lines before line `end`."""
     o, out = Owed(), {}
-    for n, line in enumerate(text.split("\n"), 1):
+    for n, line in enumerate(text.split("\n")[:end and end - 1], 1):
         w = line.split()
         if w and not w[0].startswith("#"):
             row = o.line(w)

@@ -2,11 +2,12 @@
 // answer to the session line above it; lines that begin with # are passed over.
 use libc::STDOUT_FILENO;
 
-// How far a list is: its answers so far, and how many of them differ. Of the last answer the bytes before `from` are as stored, and it is one that differs where
-// `same` is not set.
+// How far a list is: its answers so far, how many of them differ, and how many lines of the session have been answered. Of the last answer the bytes before
+// `from` are as stored, and it is one that differs where `same` is not set.
 pub struct Tally {
     pub answers: u64,
     pub differ: u64,
+    pub lines: u64,
     pub from: usize,
     pub same: bool,
 }
@@ -16,6 +17,7 @@ pub fn none() -> Tally {
     Tally {
         answers: 0,
         differ: 0,
+        lines: 0,
         from: 0,
         same: true,
     }
@@ -174,6 +176,11 @@ fn head(out: &[u8], at: usize) -> usize {
     trace_input_lines::after(trace_input_lines::line_end(out, 0, at))
 }
 
+// the number that the next line of the session has
+pub fn next_line(t: Tally) -> u64 {
+    std::num::wrapping_add_u64(t.lines, 1)
+}
+
 // with the answer to a session line, of `at` bytes
 pub fn answered(t: Tally, line: &[u8], out: &[u8], at: usize) -> Tally {
     if line.len() == 0 {
@@ -182,6 +189,7 @@ pub fn answered(t: Tally, line: &[u8], out: &[u8], at: usize) -> Tally {
     Tally {
         answers: std::num::wrapping_add_u64(t.answers, 1),
         differ: t.differ,
+        lines: next_line(t),
         from: head(out, at),
         same: true,
     }
@@ -190,6 +198,7 @@ pub fn answered(t: Tally, line: &[u8], out: &[u8], at: usize) -> Tally {
 // a new session, of which nothing is answered
 pub fn begun(t: Tally) -> Tally {
     let mut next = t;
+    next.lines = 0;
     next.from = 0;
     next.same = true;
     next
@@ -200,6 +209,7 @@ pub fn sum(a: Tally, b: Tally) -> Tally {
     Tally {
         answers: std::num::wrapping_add_u64(a.answers, b.answers),
         differ: std::num::wrapping_add_u64(a.differ, b.differ),
+        lines: 0,
         from: 0,
         same: true,
     }

@@ -77,7 +77,7 @@ fn step(
     let session = trace_session::answered(
         s,
         comparing::room(line, waiting),
-        a.number,
+        comparing::next_line(u),
         a.all,
         line,
         out,
@@ -232,6 +232,7 @@ fn replay_file(path: &[u8], name: &[u8], before: Tally) -> Tally {
 fn main() {
     let cases = replay_file(b"cases.txt", b"cases: ", comparing::none());
     let rows = replay_file(b"rows.txt", b"rows: ", cases);
-    let all = replay_file(b"random.txt", b"random: ", rows);
+    let random = replay_file(b"random.txt", b"random: ", rows);
+    let all = replay_file(b"words.txt", b"words: ", random);
     comparing::show(b"replay: ", all);
 }

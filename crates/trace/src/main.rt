@@ -37,21 +37,8 @@ fn run(
         let i = trace_dispatch::number_of(line, book);
         let k = trace_dispatch::place(i);
         let p = shelf[k];
-        let h = trace_dispatch::begun(s, a.number, line, book, out);
-        let next = trace_dispatch::on_line(
-            s,
-            p,
-            i,
-            h,
-            a.all,
-            line,
-            out,
-            book,
-            desk,
-            values,
-            audio,
-            pool,
-        );
+        let h = trace_dispatch::begun(s, a.number, a.all, line, book, out);
+        let next = trace_dispatch::on_line(s, p, i, h, line, out, book, desk, values, audio, pool);
         let t = next.state;
         s = t;
         let j = trace_dispatch::place(next.i);

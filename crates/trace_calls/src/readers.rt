@@ -3,13 +3,13 @@ use crate::setters::tables_lent;
 use engine::Done;
 use engine::Engine;
 use state::Signals;
+use trace_grammar::Reading;
 use trace_print_report::How;
 use trace_print_report::Print;
 use trace_print_report::Told;
 use trace_setup_lending::FROM;
 use trace_setup_lending::POOL_FULL;
 use trace_setup_lending::pool_top;
-use trace_setup_preset::MALFORMED;
 use trace_store_book::AUDIO;
 use trace_store_book::AUDIO_PARTS;
 use trace_store_book::BASES;
@@ -193,12 +193,6 @@ pub fn process(
     pool: &[f32],
 ) -> Done {
     let w = trace_input_words::pair(line);
-    if !w.good {
-        return Done {
-            code: MALFORMED,
-            engine,
-        };
-    }
     let b = Block {
         engine,
         signals,
@@ -226,9 +220,6 @@ pub fn outputs(
     at: usize,
 ) -> Told {
     let w = trace_input_words::pair(line);
-    if !w.good {
-        return failed(MALFORMED, at);
-    }
     trace_print_report::outputs(
         e,
         trace_store_book::get(book, DESTS),
@@ -272,9 +263,6 @@ fn on_latest(
     at: usize,
 ) -> Told {
     let w = trace_input_words::pair(line);
-    if !w.good {
-        return failed(MALFORMED, at);
-    }
     let answer = e.latest(values_lent(values, book), audio_lent(audio, book), w.a, w.b);
     trace_print_report::latest(answer, w.a, w.b, is_canon(book), out, at)
 }
@@ -331,9 +319,6 @@ fn on_latest_all(
     at: usize,
 ) -> Told {
     let w = trace_input_words::pair(line);
-    if !w.good {
-        return failed(MALFORMED, at);
-    }
     let n = count_of(w.a, w.b);
     let from = trace_store_book::at_most(pool_top(book), pool.len());
     if pool.len() - from < n {
@@ -378,9 +363,6 @@ fn on_ramp(
     at: usize,
 ) -> Told {
     let w = trace_input_words::pair(line);
-    if !w.good {
-        return failed(MALFORMED, at);
-    }
     let from = trace_store_book::at_most(pool_top(book), pool.len());
     let have = pool.len() - from;
     if have < trace_store_book::get(book, trace_store_book::sum(NEED, OUT)) {
@@ -392,22 +374,16 @@ fn on_ramp(
 
 // `is_active VOICE`
 fn on_is_active(e: Engine, line: &[u8], out: &mut [u8], at: usize) -> Told {
-    let w = trace_input_words::number_at(line, 1);
-    if !w.good {
-        return failed(MALFORMED, at);
-    }
-    trace_print_report::is_active(e.is_active(w.n), w.n, out, at)
+    let v = trace_input_words::number_at(line, 1);
+    trace_print_report::is_active(e.is_active(v), v, out, at)
 }
 
 // `rate DEST`
 fn on_rate(e: Engine, line: &[u8], out: &mut [u8], at: usize) -> Told {
-    let w = trace_input_words::number_at(line, 1);
-    if !w.good {
-        return failed(MALFORMED, at);
-    }
+    let d = trace_input_words::number_at(line, 1);
     failed(
         0,
-        trace_print_report::rate(program::rate(e.program(), w.n), w.n, out, at),
+        trace_print_report::rate(program::rate(e.program(), d), d, out, at),
     )
 }
 
@@ -484,10 +460,10 @@ pub fn on_state(
     )
 }
 
-// a line of n words whose command is c: 30 and on of `out latest latest_all ramp is_active rate`
+// a line of n words that prints what the engine answers
 pub fn reader_line(
     e: Engine,
-    c: usize,
+    c: Reading,
     line: &[u8],
     n: usize,
     book: &[usize],
@@ -498,11 +474,11 @@ pub fn reader_line(
     at: usize,
 ) -> Told {
     match c {
-        30 => on_out(e, line, n, book, values, audio, out, at),
-        31 => on_latest(e, line, book, values, audio, out, at),
-        32 => on_latest_all(e, line, book, values, audio, pool, out, at),
-        33 => on_ramp(e, line, book, values, pool, out, at),
-        34 => on_is_active(e, line, out, at),
-        _ => on_rate(e, line, out, at),
+        Reading::Out => on_out(e, line, n, book, values, audio, out, at),
+        Reading::Latest => on_latest(e, line, book, values, audio, out, at),
+        Reading::LatestAll => on_latest_all(e, line, book, values, audio, pool, out, at),
+        Reading::Ramp => on_ramp(e, line, book, values, pool, out, at),
+        Reading::IsActive => on_is_active(e, line, out, at),
+        Reading::Rate => on_rate(e, line, out, at),
     }
 }

@@ -2,8 +2,7 @@
 use engine::Done;
 use engine::Engine;
 use engine::NoteOn;
-use trace_input_words::both;
-use trace_setup_preset::MALFORMED;
+use trace_grammar::Setting;
 use trace_store_book::BASES;
 use trace_store_book::GLOBALS;
 use trace_store_book::HELD;
@@ -32,9 +31,6 @@ fn held_set(
 // `set_held SOURCE X`
 fn set_held(e: Engine, line: &[u8], book: &[usize], desk: &mut [f32]) -> Done {
     let w = trace_input_words::value(line);
-    if !w.good {
-        return failed(e, MALFORMED);
-    }
     let mut globals = trace_setup_lending::globals(desk);
     let d = held_set(e, w.n, w.x, book, desk, &mut globals);
     trace_setup_lending::set_globals(desk, &globals);
@@ -45,19 +41,13 @@ fn set_held(e: Engine, line: &[u8], book: &[usize], desk: &mut [f32]) -> Done {
 fn set_voice_held(e: Engine, line: &[u8], book: &[usize], desk: &mut [f32]) -> Done {
     let w = trace_input_words::pair(line);
     let x = trace_input_words::float_at(line, 3);
-    if !both(w.good, x.good) {
-        return failed(e, MALFORMED);
-    }
     let a = trace_store_book::lent(book, HELD, desk.len());
-    e.set_voice_held(&mut desk[0..a], w.a, w.b, x.value)
+    e.set_voice_held(&mut desk[0..a], w.a, w.b, x)
 }
 
 // `set_base DEST X`
 fn set_base(e: Engine, line: &[u8], book: &[usize], pool: &mut [f32]) -> Done {
     let w = trace_input_words::value(line);
-    if !w.good {
-        return failed(e, MALFORMED);
-    }
     let a = trace_store_book::lent(book, BASES, pool.len());
     e.set_base(&mut pool[0..a], w.n, w.x)
 }
@@ -65,62 +55,36 @@ fn set_base(e: Engine, line: &[u8], book: &[usize], pool: &mut [f32]) -> Done {
 // `set_amount SLOT X`
 fn set_amount(e: Engine, line: &[u8]) -> Done {
     let w = trace_input_words::value(line);
-    if !w.good {
-        return failed(e, MALFORMED);
-    }
     e.set_amount(w.n, w.x)
 }
 
 // `set_output SLOT X`
 fn set_output(e: Engine, line: &[u8]) -> Done {
     let w = trace_input_words::value(line);
-    if !w.good {
-        return failed(e, MALFORMED);
-    }
     e.set_output(w.n, w.x)
 }
 
 // `set_voice_limit N`
 fn set_voice_limit(e: Engine, line: &[u8]) -> Done {
-    let w = trace_input_words::number_at(line, 1);
-    if !w.good {
-        return failed(e, MALFORMED);
-    }
-    e.set_voice_limit(w.n)
+    e.set_voice_limit(trace_input_words::number_at(line, 1))
 }
 
 // `set_rng HEX16`
 fn set_rng(e: Engine, line: &[u8]) -> Done {
     let w = trace_input_session::word(line, 1);
-    if 16 < w.len() {
-        return failed(e, MALFORMED);
-    }
     let draw = hex::hex(w, 0, w.len());
     failed(e.with_draw(draw), 0)
 }
 
 // ---- notes
 
-struct NoteWord {
-    good: bool,
-    note: NoteOn,
-}
-
 // KEY VELOCITY LEGATO GLIDE_SECONDS, from word 2 on
-fn note_of(line: &[u8]) -> NoteWord {
-    let key = trace_input_words::float_at(line, 2);
-    let velocity = trace_input_words::float_at(line, 3);
-    let legato = trace_input_words::flag_at(line, 4);
-    let glide = trace_input_words::float_at(line, 5);
-    let note = NoteOn {
-        key: key.value,
-        velocity: velocity.value,
-        legato: legato.on,
-        glide_seconds: glide.value,
-    };
-    NoteWord {
-        good: both(both(key.good, velocity.good), both(legato.good, glide.good)),
-        note,
+fn note_of(line: &[u8]) -> NoteOn {
+    NoteOn {
+        key: trace_input_words::float_at(line, 2),
+        velocity: trace_input_words::float_at(line, 3),
+        legato: trace_input_words::flag_at(line, 4),
+        glide_seconds: trace_input_words::float_at(line, 5),
     }
 }
 
@@ -135,68 +99,44 @@ pub fn tables_lent<'a>(pool: &'a [f32], book: &[usize]) -> &'a [f32] {
 // `note_on VOICE KEY VELOCITY LEGATO GLIDE_SECONDS`
 fn note_on(e: Engine, line: &[u8], book: &[usize], desk: &mut [f32], pool: &[f32]) -> Done {
     let v = trace_input_words::number_at(line, 1);
-    let w = note_of(line);
-    if !both(v.good, w.good) {
-        return failed(e, MALFORMED);
-    }
-    let note = w.note;
+    let note = note_of(line);
     let a = trace_store_book::lent(book, HELD, desk.len());
-    e.note_on(&mut desk[0..a], tables_lent(pool, book), v.n, note)
+    e.note_on(&mut desk[0..a], tables_lent(pool, book), v, note)
 }
 
 // `note_off VOICE X`
 fn note_off(e: Engine, line: &[u8], book: &[usize], desk: &mut [f32]) -> Done {
     let w = trace_input_words::value(line);
-    if !w.good {
-        return failed(e, MALFORMED);
-    }
     let a = trace_store_book::lent(book, HELD, desk.len());
     e.note_off(&mut desk[0..a], w.n, w.x)
 }
 
 // `voice_ended VOICE`
 fn voice_ended(e: Engine, line: &[u8], book: &[usize], desk: &[f32]) -> Done {
-    let w = trace_input_words::number_at(line, 1);
-    if !w.good {
-        return failed(e, MALFORMED);
-    }
+    let v = trace_input_words::number_at(line, 1);
     let a = trace_store_book::lent(book, HELD, desk.len());
-    e.voice_ended(&desk[0..a], w.n)
+    e.voice_ended(&desk[0..a], v)
 }
 
-// a line whose command is c: 24 and on of `set_voice_limit note_on note_off voice_ended set_rng`
-fn note_line(
-    e: Engine,
-    c: usize,
-    line: &[u8],
-    book: &[usize],
-    desk: &mut [f32],
-    pool: &[f32],
-) -> Done {
-    match c {
-        24 => set_voice_limit(e, line),
-        25 => note_on(e, line, book, desk, pool),
-        26 => note_off(e, line, book, desk),
-        27 => voice_ended(e, line, book, desk),
-        _ => set_rng(e, line),
-    }
-}
-
-// a line whose command is c: 19 and on of `set_held set_voice_held set_base set_amount set_output`, then those of notes
+// a line that sets something of the engine
 pub fn setter_line(
     e: Engine,
-    c: usize,
+    c: Setting,
     line: &[u8],
     book: &[usize],
     desk: &mut [f32],
     pool: &mut [f32],
 ) -> Done {
     match c {
-        19 => set_held(e, line, book, desk),
-        20 => set_voice_held(e, line, book, desk),
-        21 => set_base(e, line, book, pool),
-        22 => set_amount(e, line),
-        23 => set_output(e, line),
-        _ => note_line(e, c, line, book, desk, pool),
+        Setting::SetHeld => set_held(e, line, book, desk),
+        Setting::SetVoiceHeld => set_voice_held(e, line, book, desk),
+        Setting::SetBase => set_base(e, line, book, pool),
+        Setting::SetAmount => set_amount(e, line),
+        Setting::SetOutput => set_output(e, line),
+        Setting::SetVoiceLimit => set_voice_limit(e, line),
+        Setting::NoteOn => note_on(e, line, book, desk, pool),
+        Setting::NoteOff => note_off(e, line, book, desk),
+        Setting::VoiceEnded => voice_ended(e, line, book, desk),
+        Setting::SetRng => set_rng(e, line),
     }
 }

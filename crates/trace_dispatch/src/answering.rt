@@ -2,8 +2,11 @@
 use engine::Done;
 use engine::Engine;
 use state::Program;
+use trace_grammar::Command;
+use trace_grammar::Line;
+use trace_grammar::Reading;
+use trace_grammar::Setting;
 use trace_lines_answer::Hand;
-use trace_lines_answer::NOTHING;
 use trace_lines_stage::After;
 use trace_lines_stage::State;
 use trace_print_report::Told;
@@ -14,6 +17,7 @@ use trace_print_report::Told;
 fn on_setting(
     s: State,
     h: Hand,
+    c: Setting,
     line: &[u8],
     out: &mut [u8],
     book: &[usize],
@@ -21,7 +25,7 @@ fn on_setting(
     pool: &mut [f32],
 ) -> State {
     let before = s.engine;
-    let d = trace_calls::setter_line(before, h.c, line, book, desk, pool);
+    let d = trace_calls::setter_line(before, c, line, book, desk, pool);
     let engine = d.engine;
     let mut next = s;
     next.engine = engine;
@@ -94,7 +98,9 @@ fn with_told(s: State, r: Told, number: u64, out: &mut [u8]) -> State {
 fn on_reading(
     s: State,
     h: Hand,
+    c: Reading,
     line: &[u8],
+    n: usize,
     out: &mut [u8],
     book: &[usize],
     values: &[f32],
@@ -102,104 +108,68 @@ fn on_reading(
     pool: &mut [f32],
 ) -> State {
     let e = s.engine;
-    let r = trace_calls::reader_line(e, h.c, line, h.n, book, values, audio, pool, out, h.at);
+    let r = trace_calls::reader_line(e, c, line, n, book, values, audio, pool, out, h.at);
     with_told(s, r, h.number, out)
 }
 
-fn shown(
-    e: Engine,
-    h: Hand,
-    book: &[usize],
-    desk: &[f32],
-    values: &[f32],
-    audio: &[f32],
-    pool: &[f32],
-    out: &mut [u8],
-) -> usize {
-    if trace_lines_answer::is_quiet(book) {
-        return h.at;
-    }
-    if h.c == 36 {
-        return trace_calls::on_state(e, book, desk, pool, out, h.at).at;
-    }
-    trace_calls::on_memory(e, book, values, audio, out, h.at).at
-}
-
-// lines that print all of the engine's state, or of the program's memory
-fn on_showing(
+// `state`
+fn on_state(
     s: State,
     h: Hand,
     out: &mut [u8],
     book: &[usize],
     desk: &[f32],
-    values: &[f32],
-    audio: &[f32],
     pool: &[f32],
 ) -> State {
+    if trace_lines_answer::is_quiet(book) {
+        return s;
+    }
     let e = s.engine;
     let mut next = s;
-    next.at = shown(e, h, book, desk, values, audio, pool, out);
+    next.at = trace_calls::on_state(e, book, desk, pool, out, h.at).at;
+    next
+}
+
+// `memory`
+fn on_memory(
+    s: State,
+    h: Hand,
+    out: &mut [u8],
+    book: &[usize],
+    values: &[f32],
+    audio: &[f32],
+) -> State {
+    if trace_lines_answer::is_quiet(book) {
+        return s;
+    }
+    let e = s.engine;
+    let mut next = s;
+    next.at = trace_calls::on_memory(e, book, values, audio, out, h.at).at;
     next
 }
 
 // ---- every line
 
-// a line that is not of the format, or too long
-fn stopped(s: State, h: Hand, code: u8, line: &[u8], out: &mut [u8]) -> State {
-    let mut next = s;
-    next.at = trace_lines_answer::stopped(code, h.number, line, out, h.at);
-    next.code = code;
-    next
-}
-
-// lines that leave the programs outside as they are
-fn on_other(
-    s: State,
-    h: Hand,
-    line: &[u8],
-    out: &mut [u8],
-    book: &mut [usize],
-    desk: &mut [f32],
-    values: &mut [f32],
-    audio: &mut [f32],
-    pool: &mut [f32],
-) -> State {
-    if h.c < 10 {
-        return trace_lines_stage::on_preset(s, h, line, out, book, desk, audio);
-    }
-    if h.c < 19 {
-        return trace_lines_stage::on_lending(s, h, line, out, book, pool);
-    }
-    if h.c < 29 {
-        return on_setting(s, h, line, out, book, desk, pool);
-    }
-    if h.c == 29 {
-        return on_process(s, h, line, out, book, desk, values, audio, pool);
-    }
-    if h.c < 36 {
-        return on_reading(s, h, line, out, book, values, audio, pool);
-    }
-    if h.c == 38 {
-        return trace_lines_stage::on_standard(s, h, line, out, book);
-    }
-    on_showing(s, h, out, book, desk, values, audio, pool)
-}
-
-fn is_whole(c: usize) -> bool {
-    trace_input_words::both(9 < c, c < 13)
-}
-
 fn after(state: State, i: usize, program: Program) -> After {
     After { state, i, program }
 }
 
-// The state after a line in hand; `all` says that it is whole. What it prints is appended to `out`. p is program i, which `number_of` answers.
-pub fn on_line(
+// a line that ends the session
+fn stopped(s: State, h: Hand) -> State {
+    let mut next = s;
+    next.at = h.at;
+    next.code = h.code;
+    next
+}
+
+// a call of n words
+fn on_call(
     s: State,
     p: Program,
     i: usize,
     h: Hand,
-    all: bool,
+    c: Command,
+    n: usize,
     line: &[u8],
     out: &mut [u8],
     book: &mut [usize],
@@ -208,20 +178,86 @@ pub fn on_line(
     audio: &mut [f32],
     pool: &mut [f32],
 ) -> After {
-    if h.c == NOTHING {
+    match c {
+        Command::Registry(r) => after(
+            trace_lines_stage::on_registry(s, h, r, line, out, book),
+            i,
+            p,
+        ),
+        Command::Editing(e) => after(
+            trace_lines_stage::on_matrix(s, h, e, line, n, out, book, desk, audio),
+            i,
+            p,
+        ),
+        Command::Making(m) => trace_lines_stage::on_whole(
+            s,
+            p,
+            i,
+            h,
+            m,
+            out,
+            book,
+            desk,
+            values,
+            audio,
+            pool,
+        ),
+        Command::Lending(l) => after(
+            trace_lines_stage::on_lending(s, h, l, line, n, out, book, pool),
+            i,
+            p,
+        ),
+        Command::Setting(t) => after(on_setting(s, h, t, line, out, book, desk, pool), i, p),
+        Command::Process => after(
+            on_process(s, h, line, out, book, desk, values, audio, pool),
+            i,
+            p,
+        ),
+        Command::Reading(r) => after(
+            on_reading(s, h, r, line, n, out, book, values, audio, pool),
+            i,
+            p,
+        ),
+        Command::State => after(on_state(s, h, out, book, desk, pool), i, p),
+        Command::Memory => after(on_memory(s, h, out, book, values, audio), i, p),
+        Command::Standard => after(trace_lines_stage::on_standard(s, h, line, out, book), i, p),
+    }
+}
+
+// The state after a line in hand. What it prints is appended to `out`. p is program i, which `number_of` answers.
+pub fn on_line(
+    s: State,
+    p: Program,
+    i: usize,
+    h: Hand,
+    line: &[u8],
+    out: &mut [u8],
+    book: &mut [usize],
+    desk: &mut [f32],
+    values: &mut [f32],
+    audio: &mut [f32],
+    pool: &mut [f32],
+) -> After {
+    if h.code != 0 {
+        return after(stopped(s, h), i, p);
+    }
+    let said = h.said;
+    let Line::Call { command, words } = said else {
         return after(s, i, p);
-    }
-    let code = trace_lines_answer::misfit(h.c, h.n, all, book);
-    if code != 0 {
-        return after(stopped(s, h, code, line, out), i, p);
-    }
-    if is_whole(h.c) {
-        return trace_lines_stage::on_whole(s, p, i, h, out, book, desk, values, audio, pool);
-    }
-    let state = on_other(s, h, line, out, book, desk, values, audio, pool);
-    After {
-        state,
+    };
+    on_call(
+        s,
+        p,
         i,
-        program: p,
-    }
+        h,
+        command,
+        words,
+        line,
+        out,
+        book,
+        desk,
+        values,
+        audio,
+        pool,
+    )
 }

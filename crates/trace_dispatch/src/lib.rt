@@ -71,9 +71,16 @@ pub fn start() -> State {
     }
 }
 
-// the line in hand, once what stands above its answers is printed
-pub fn begun(s: State, number: u64, line: &[u8], book: &[usize], out: &mut [u8]) -> Hand {
-    trace_lines_answer::begun(s.at, number, line, book, out)
+// the line in hand, whole where `all` says so, once what stands above its answers is printed
+pub fn begun(
+    s: State,
+    number: u64,
+    all: bool,
+    line: &[u8],
+    book: &[usize],
+    out: &mut [u8],
+) -> Hand {
+    trace_lines_answer::begun(s.at, number, all, line, book, out)
 }
 
 // The end of a session, whose input can't be read to its end where `failed` says so: the last line of its trace, and the digit that

@@ -29,8 +29,8 @@ allHex (b ∷ w) = isHex b && allHex w
 unfoldable pub decimalWord : List ℕ → FloatWord
 decimalWord w = record { good = Decimal.decimalOf w .good; value = Decimal.decimalOf w .value }
 
--- a number: the 8 hexadecimal digits of its bits, or a decimal (docs/SESSIONS.md, How a line reads); a word that is both is
--- read as hexadecimal, and any other word is none
+-- a number: the 8 hexadecimal digits of its bits, or a decimal (docs/SESSIONS.md, How a line reads); a word that is
+-- both is read as hexadecimal, and any other word is none
 unfoldable pub floatOf : List ℕ → FloatWord
 unfolding decimalWord
 floatOf w =
@@ -39,8 +39,11 @@ floatOf w =
     (decimalWord w)
 
 -- "3F80000g" is no number, and neither is "3F8"
-noDigits : (floatOf (51 ∷ 70 ∷ 56 ∷ 48 ∷ 48 ∷ 48 ∷ 48 ∷ 103 ∷ []) .good ≡ false) × (floatOf (51 ∷ 70 ∷ 56 ∷ []) .good ≡ false)
-unfolding floatOf allHex isHex decimalWord Decimal.decimalOf Decimal.isDecimal Decimal.isPower Decimal.hasPoint Decimal.mark Decimal.rest Decimal.past Decimal.run Decimal.isDigit Decimal.lead Decimal.unsigned Decimal.isSign Decimal.afterPoint Decimal.power Decimal.none
+noDigits : (floatOf (51 ∷ 70 ∷ 56 ∷ 48 ∷ 48 ∷ 48 ∷ 48 ∷ 103 ∷ []) .good ≡ false)
+    × (floatOf (51 ∷ 70 ∷ 56 ∷ []) .good ≡ false)
+unfolding floatOf allHex isHex decimalWord Decimal.decimalOf Decimal.isDecimal Decimal.isPower Decimal.hasPoint
+    Decimal.mark Decimal.rest Decimal.past Decimal.run Decimal.isDigit Decimal.lead Decimal.unsigned Decimal.isSign
+    Decimal.afterPoint Decimal.power Decimal.none
 noDigits = (refl, refl)
 
 -- "3F800000" is 1
@@ -64,14 +67,23 @@ unfoldable pub digitsAfter : ℕ → List ℕ → WholeWord
 digitsAfter v [] = record { good = true; value = v }
 digitsAfter v (b ∷ w) =
     cond (ltb (decimalOf b) 10)
-    (cond (ltb (v * 10 + decimalOf b) (2 ^ 64)) (digitsAfter (v * 10 + decimalOf b) w) (record { good = false; value = 0 }))
+    (cond (ltb (v * 10 + decimalOf b) (2 ^ 64)) (digitsAfter (v * 10 + decimalOf b) w)
+    (record { good = false; value = 0 }))
     (record { good = false; value = 0 })
 
--- a whole number: decimal digits, at least one, of a number below 2^64 (oracle/README.md, Session format); any other word is none
+-- a whole number: decimal digits, at least one, of a number below 2^64 (oracle/README.md, Session format); any other
+-- word is none
 unfoldable pub wholeOf : List ℕ → WholeWord
 wholeOf w = cond (eqb (length w) 0) (record { good = false; value = 0 }) (digitsAfter 0 w)
 
 -- "407"; "4-7"; "18446744073709551615" and one more
-wholes : (wholeOf (52 ∷ 48 ∷ 55 ∷ []) ≡ record { good = true; value = 407 }) × (wholeOf (52 ∷ 45 ∷ 55 ∷ []) .good ≡ false) × (digitsAfter 1844674407370955161 (53 ∷ []) ≡ record { good = true; value = 18446744073709551615 }) × (digitsAfter 1844674407370955161 (54 ∷ []) .good ≡ false)
+wholes : (wholeOf (52 ∷ 48 ∷ 55 ∷ []) ≡ record { good = true; value = 407 })
+    × (wholeOf (52 ∷ 45 ∷ 55 ∷ []) .good ≡ false)
+    × (digitsAfter 1844674407370955161 (53 ∷ []) ≡ record { good = true; value = 18446744073709551615 })
+    × (digitsAfter 1844674407370955161 (54 ∷ []) .good ≡ false)
 unfolding wholeOf digitsAfter decimalOf
 wholes = (refl, refl, refl, refl)
+
+-- a whole number that is at most `most`
+unfoldable pub wholeTo : ℕ → List ℕ → WholeWord
+wholeTo most w = cond (ltb most (wholeOf w .value)) (record { good = false; value = 0 }) (wholeOf w)

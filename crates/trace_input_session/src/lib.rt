@@ -2,9 +2,13 @@
 
 ghost use mathlib.Core.Path.{_≡_};
 ghost use mathlib.Core.Bool.{false};
-ghost use Prim.Native.Nat.{_≤_};
-ghost use Rattle.trace_input_session.specs.Words.{isHex, allHex, decimalWord, floatOf, sameBytes, decimalOf, wholeOf};
-ghost use lib.ListN.{length};
+ghost use mathlib.Core.List.{[]};
+ghost use Prim.Native.Nat.{_<_, _≤_};
+ghost use Rattle.trace_input_session.specs.Words.{isHex, allHex, decimalWord, floatOf, sameBytes, decimalOf};
+ghost use Rattle.trace_input_session.specs.Words.{wholeOf, wholeTo};
+ghost use Rattle.trace_input_session.specs.Lines.{isBlank, wordFrom, wordsOf, indexOf, beforeOf, afterOf, partOf};
+ghost use Rattle.trace_input_session.specs.Lines.{Skipped, Stopped, Passed, Placed, Found};
+ghost use lib.ListN.{length, drop, getD};
 
 // A whole number, where the word is one.
 pub struct WholeWord {
@@ -18,24 +22,25 @@ pub struct FloatWord {
     pub value: f32,
 }
 
-// A yes or no, where the word is 1 or 0.
-pub struct FlagWord {
-    pub good: bool,
-    pub on: bool,
-}
-
 // ---- words
 
 // a blank parts words: space, tab, line feed, vertical tab, form feed, carriage return
-fn is_blank(b: u8) -> bool {
+fn is_blank(b: u8) -> bool
+    ensures { λ r. ⌜ r ≡ isBlank b ⌝ }
+{
     if b == 32 {
         return true;
     }
-    9 <= b && b <= 13
+    if b < 9 {
+        return false;
+    }
+    b < 14
 }
 
 // the first place from `from` on that is no blank; the length where there is none
-pub fn skip(line: &[u8], from: usize) -> usize {
+pub fn skip(line: &[u8], from: usize) -> usize
+    ensures { λ r. ⌜ Skipped (now (line .entry)) from r ⌝ }
+{
     let mut i = from;
     while i < line.len() {
         if !is_blank(line[i]) {
@@ -47,7 +52,9 @@ pub fn skip(line: &[u8], from: usize) -> usize {
 }
 
 // the first place from `from` on that is a blank; the length where there is none
-pub fn stop(line: &[u8], from: usize) -> usize {
+pub fn stop(line: &[u8], from: usize) -> usize
+    ensures { λ r. ⌜ Stopped (now (line .entry)) from r ⌝ }
+{
     let mut i = from;
     while i < line.len() {
         if is_blank(line[i]) {
@@ -59,7 +66,9 @@ pub fn stop(line: &[u8], from: usize) -> usize {
 }
 
 // the bytes from `at` to before `end`; none where these are no places of it
-pub fn part(s: &[u8], at: usize, end: usize) -> &[u8] {
+pub fn part(s: &[u8], at: usize, end: usize) -> &[u8]
+    ensures { λ r. ⌜ now r ≡ partOf (now (s .entry)) at end ⌝ }
+{
     if s.len() < end {
         return &s[..0];
     }
@@ -70,29 +79,17 @@ pub fn part(s: &[u8], at: usize, end: usize) -> &[u8] {
 }
 
 // the word that begins at `at`
-pub fn word_at(line: &[u8], at: usize) -> &[u8] {
+pub fn word_at(line: &[u8], at: usize) -> &[u8]
+    ensures { λ r. ⌜ now r ≡ wordFrom (drop at (now (line .entry))) ⌝ }
+{
     part(line, at, stop(line, at))
 }
 
 // where the word after the one at `at` begins
-pub fn next(line: &[u8], at: usize) -> usize {
+pub fn next(line: &[u8], at: usize) -> usize
+    ensures { λ r. ⌜ Passed (now (line .entry)) at r ⌝ }
+{
     skip(line, stop(line, at))
-}
-
-// where word n begins
-pub fn place(line: &[u8], n: usize) -> usize {
-    let mut at = skip(line, 0);
-    let mut k = 0usize;
-    while k < n {
-        at = next(line, at);
-        k += 1usize;
-    }
-    at
-}
-
-// word n of a line; empty where there is none
-pub fn word(line: &[u8], n: usize) -> &[u8] {
-    word_at(line, place(line, n))
 }
 
 // whether a word begins at a place
@@ -109,29 +106,75 @@ fn begins(line: &[u8], i: usize) -> bool {
     is_blank(line[i - 1])
 }
 
-fn one_if(b: bool) -> usize
-    ensures { λ r. ⌜ r ≤ 1 ⌝ }
+// where the last word begins that begins before `at`; 0 where there is none
+pub fn back(line: &[u8], at: usize) -> usize
+    ensures { λ r. ⌜ (r ≤ at) × (0 < at → r < at) ⌝ }
 {
-    if b { 1 } else { 0 }
+    let mut i = at;
+    while 0 < i {
+        i -= 1usize;
+        if begins(line, i) {
+            return i;
+        }
+    }
+    0
+}
+
+// where word n begins
+pub fn place(line: &[u8], n: usize) -> usize
+    ensures { λ r. ⌜ Placed (now (line .entry)) n r ⌝ }
+{
+    let mut at = skip(line, 0);
+    let mut k = 0usize;
+    while k < n {
+        at = next(line, at);
+        k += 1usize;
+    }
+    at
+}
+
+// word n of a line; empty where there is none
+pub fn word(line: &[u8], n: usize) -> &[u8]
+    ensures { λ r. ⌜ now r ≡ getD (wordsOf (now (line .entry))) n [] ⌝ }
+{
+    word_at(line, place(line, n))
 }
 
 // how many words a line has
 pub fn count(line: &[u8]) -> usize
-    ensures { λ r. ⌜ r ≤ length (now (line .entry)) ⌝ }
+    ensures { λ r. ⌜ (r ≡ length (wordsOf (now (line .entry)))) × (r ≤ length (now (line .entry))) ⌝ }
 {
+    let mut p = skip(line, 0);
     let mut n = 0usize;
-    let mut i = 0usize;
-    while i < line.len() {
-        n += one_if(begins(line, i));
-        i += 1usize;
+    while p < line.len() {
+        p = next(line, p);
+        n += 1usize;
     }
     n
+}
+
+// the place of a word in a list of words; how many there are where it is none of them
+pub fn index(list: &[u8], w: &[u8]) -> usize
+    ensures { λ r. ⌜ r ≡ indexOf (wordsOf (now (list .entry))) (now (w .entry)) ⌝ }
+{
+    let mut p = skip(list, 0);
+    let mut k = 0usize;
+    while p < list.len() {
+        if is(word_at(list, p), w) {
+            return k;
+        }
+        p = next(list, p);
+        k += 1usize;
+    }
+    k
 }
 
 // ---- parts of a word
 
 // the first place of a byte; the length where there is none
-pub fn find(s: &[u8], b: u8) -> usize {
+pub fn find(s: &[u8], b: u8) -> usize
+    ensures { λ r. ⌜ Found (now (s .entry)) b r ⌝ }
+{
     let mut i = 0usize;
     while i < s.len() {
         if s[i] == b {
@@ -143,12 +186,16 @@ pub fn find(s: &[u8], b: u8) -> usize {
 }
 
 // what stands before the first b; all where there is none
-pub fn before(s: &[u8], b: u8) -> &[u8] {
+pub fn before(s: &[u8], b: u8) -> &[u8]
+    ensures { λ r. ⌜ now r ≡ beforeOf b (now (s .entry)) ⌝ }
+{
     part(s, 0, find(s, b))
 }
 
 // what stands after the first b; nothing where there is none
-pub fn after(s: &[u8], b: u8) -> &[u8] {
+pub fn after(s: &[u8], b: u8) -> &[u8]
+    ensures { λ r. ⌜ now r ≡ afterOf b (now (s .entry)) ⌝ }
+{
     let i = find(s, b);
     if s.len() <= i {
         return &s[..0];
@@ -224,7 +271,9 @@ pub fn whole(w: &[u8]) -> WholeWord
 }
 
 // the same, at most `most`
-pub fn whole_to(w: &[u8], most: u64) -> WholeWord {
+pub fn whole_to(w: &[u8], most: u64) -> WholeWord
+    ensures { λ r. ⌜ r ≡ wholeTo most (now (w .entry)) ⌝ }
+{
     let n = whole(w);
     let value = n.value;
     if most < value {
@@ -254,7 +303,7 @@ fn is_hex(b: u8) -> bool
     b < 103
 }
 
-fn all_hex(w: &[u8]) -> bool
+pub fn all_hex(w: &[u8]) -> bool
     ensures { λ r. ⌜ r ≡ allHex (now (w .entry)) ⌝ }
 {
     let mut i = 0usize;
@@ -291,26 +340,5 @@ pub fn float(w: &[u8]) -> FloatWord
     FloatWord {
         good: true,
         value: hex::of_bits((hex::hex(w, 0, 8) % 0x1_0000_0000) as u32),
-    }
-}
-
-// the word 1 or 0
-pub fn flag(w: &[u8]) -> FlagWord {
-    if w.len() != 1 {
-        return FlagWord {
-            good: false,
-            on: false,
-        };
-    }
-    let b = w[0];
-    if b == 48 {
-        return FlagWord {
-            good: true,
-            on: false,
-        };
-    }
-    FlagWord {
-        good: b == 49,
-        on: b == 49,
     }
 }

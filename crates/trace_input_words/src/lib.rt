@@ -1,5 +1,4 @@
-// The words of a session's lines (oracle/README.md, Session format): which of a list a word is, the arguments of a line, and the cases of the core's types that
-// words stand for.
+// What the words of a session's lines stand for: the arguments of a line, and the cases of the core's types. Lines are judged before (grammar).
 use config::Config;
 use state::Aim;
 use state::Feed;
@@ -11,118 +10,79 @@ use state::Rate;
 use state::Scope;
 use state::Target;
 
-// ---- lists of words
-
-// the place of a word in a list of words; how many there are where it is none of them
-pub fn index(list: &[u8], w: &[u8]) -> usize {
-    let n = trace_input_session::count(list);
-    let mut p = trace_input_session::place(list, 0);
-    let mut k = 0usize;
-    while k < n {
-        if trace_input_session::is(trace_input_session::word_at(list, p), w) {
-            return k;
-        }
-        p = trace_input_session::next(list, p);
-        k += 1usize;
-    }
-    n
-}
-
-// the place in a list of word k of a line
-pub fn index_at(list: &[u8], line: &[u8], k: usize) -> usize {
-    index(list, trace_input_session::word(line, k))
-}
-
-// number k of a list of numbers
-pub fn listed(list: &[u8], k: usize) -> usize {
-    let w = trace_input_session::whole(trace_input_session::word(list, k));
-    w.value as usize
-}
-
-// ---- arguments of a line
-
-pub fn both(a: bool, b: bool) -> bool {
-    if a { b } else { false }
-}
-
-pub struct NumberWord {
-    pub good: bool,
-    pub n: usize,
-}
+// ---- arguments of a line: each is of its kind (grammar)
 
 // Words 1 and 2, two whole numbers.
 pub struct PairWord {
-    pub good: bool,
     pub a: usize,
     pub b: usize,
 }
 
 // Words 1 and 2, a whole number and a number.
 pub struct ValueWord {
-    pub good: bool,
     pub n: usize,
     pub x: f32,
 }
 
+// a word that is a whole number
+pub fn number(w: &[u8]) -> usize {
+    let n = trace_input_session::whole(w);
+    n.value as usize
+}
+
+// a word that is a number
+pub fn float(w: &[u8]) -> f32 {
+    let x = trace_input_session::float(w);
+    x.value
+}
+
+// the place in a list of word k of a line
+pub fn index_at(list: &[u8], line: &[u8], k: usize) -> usize {
+    trace_input_session::index(list, trace_input_session::word(line, k))
+}
+
 // word k, a whole number
-pub fn number_at(line: &[u8], k: usize) -> NumberWord {
-    let w = trace_input_session::whole(trace_input_session::word(line, k));
-    NumberWord {
-        good: w.good,
-        n: w.value as usize,
-    }
+pub fn number_at(line: &[u8], k: usize) -> usize {
+    number(trace_input_session::word(line, k))
 }
 
 // word k, a number
-pub fn float_at(line: &[u8], k: usize) -> trace_input_session::FloatWord {
-    trace_input_session::float(trace_input_session::word(line, k))
+pub fn float_at(line: &[u8], k: usize) -> f32 {
+    float(trace_input_session::word(line, k))
+}
+
+// whether a word, 0 or 1, is 1
+pub fn flag(w: &[u8]) -> bool {
+    trace_input_session::is(w, b"1")
 }
 
 // word k, 0 or 1
-pub fn flag_at(line: &[u8], k: usize) -> trace_input_session::FlagWord {
-    trace_input_session::flag(trace_input_session::word(line, k))
+pub fn flag_at(line: &[u8], k: usize) -> bool {
+    flag(trace_input_session::word(line, k))
 }
 
 // words 1 and 2, whole numbers
 pub fn pair(line: &[u8]) -> PairWord {
-    let a = number_at(line, 1);
-    let b = number_at(line, 2);
     PairWord {
-        good: both(a.good, b.good),
-        a: a.n,
-        b: b.n,
+        a: number_at(line, 1),
+        b: number_at(line, 2),
     }
 }
 
 // words 1 and 2, a whole number and a number
 pub fn value(line: &[u8]) -> ValueWord {
-    let n = number_at(line, 1);
-    let x = float_at(line, 2);
     ValueWord {
-        good: both(n.good, x.good),
-        n: n.n,
-        x: x.value,
+        n: number_at(line, 1),
+        x: float_at(line, 2),
     }
 }
 
-pub struct ConfigWord {
-    pub good: bool,
-    pub config: Config,
-}
-
 // `config RATE FRAMES VOICES`
-pub fn config(line: &[u8]) -> ConfigWord {
-    let rate = float_at(line, 1);
-    let frames = number_at(line, 2);
-    let voices = number_at(line, 3);
-    let config = Config {
-        sample_rate: rate.value,
-        max_frames: frames.n,
-        voices: voices.n,
-    };
-    ConfigWord {
-        good: both(rate.good, both(frames.good, voices.good)),
-        config,
+pub fn config(line: &[u8]) -> Config {
+    Config {
+        sample_rate: float_at(line, 1),
+        max_frames: number_at(line, 2),
+        voices: number_at(line, 3),
     }
 }
 
@@ -130,7 +90,6 @@ pub fn config(line: &[u8]) -> ConfigWord {
 
 // The kind, scope and range of a source.
 pub struct SourceWord {
-    pub good: bool,
     pub kind: Kind,
     pub scope: Scope,
     pub range: Range,
@@ -194,19 +153,13 @@ pub fn source(line: &[u8]) -> SourceWord {
     let kind = kind_of(k);
     let scope = scope_of(s);
     let range = range_of(r);
-    SourceWord {
-        good: both(k < 12, both(s < 2, r < 2)),
-        kind,
-        scope,
-        range,
-    }
+    SourceWord { kind, scope, range }
 }
 
 // ---- destinations
 
 // The scope, rate and bounds of a destination.
 pub struct DestWord {
-    pub good: bool,
     pub scope: Scope,
     pub rate: Rate,
     pub min: f32,
@@ -225,69 +178,25 @@ fn rate_of(i: usize) -> Rate {
 pub fn dest(line: &[u8]) -> DestWord {
     let s = index_at(b"v g", line, 2);
     let r = index_at(b"audio control adaptive", line, 3);
-    let min = float_at(line, 4);
-    let max = float_at(line, 5);
     let scope = scope_of(s);
     let rate = rate_of(r);
     DestWord {
-        good: both(both(s < 2, r < 3), both(min.good, max.good)),
         scope,
         rate,
-        min: min.value,
-        max: max.value,
+        min: float_at(line, 4),
+        max: float_at(line, 5),
     }
-}
-
-pub struct TargetWord {
-    pub good: bool,
-    pub target: Target,
 }
 
 // `p:NUMBER` or `l:LFO:BUS`
-pub fn target(w: &[u8]) -> TargetWord {
-    let i = index(b"p l", trace_input_session::before(w, 58));
+pub fn target(w: &[u8]) -> Target {
     let rest = trace_input_session::after(w, 58);
-    match i {
-        0 => param(rest),
-        1 => lfo_bus(rest),
-        _ => TargetWord {
-            good: false,
-            target: Target::Param(0),
-        },
+    if trace_input_session::is(trace_input_session::before(w, 58), b"p") {
+        return Target::Param((number(rest) % 4294967296) as u32);
     }
-}
-
-fn param(w: &[u8]) -> TargetWord {
-    let n = trace_input_session::whole_to(w, 4294967295);
-    let id = (n.value % 4294967296) as u32;
-    TargetWord {
-        good: n.good,
-        target: Target::Param(id),
-    }
-}
-
-fn lfo_bus(w: &[u8]) -> TargetWord {
-    let l = trace_input_session::whole_to(trace_input_session::before(w, 58), 255);
-    let b = trace_input_session::whole_to(trace_input_session::after(w, 58), 255);
-    let lfo = (l.value % 256) as u8;
-    let bus = (b.value % 256) as u8;
-    TargetWord {
-        good: both(l.good, b.good),
-        target: Target::LfoBus { lfo, bus },
-    }
-}
-
-pub struct FeedWord {
-    pub good: bool,
-    pub feed: Feed,
-}
-
-// the most that the number of a feed may be
-fn most_fed(i: usize) -> u64 {
-    if i == 0 {
-        return 65535;
-    }
-    255
+    let lfo = (number(trace_input_session::before(rest, 58)) % 256) as u8;
+    let bus = (number(trace_input_session::after(rest, 58)) % 256) as u8;
+    Target::LfoBus { lfo, bus }
 }
 
 fn feed_of(i: usize, n: usize) -> Feed {
@@ -299,83 +208,37 @@ fn feed_of(i: usize, n: usize) -> Feed {
 }
 
 // `-`, `src:N`, `amt:SLOT`, `out:SLOT`
-pub fn feed(w: &[u8]) -> FeedWord {
+pub fn feed(w: &[u8]) -> Feed {
     if trace_input_session::is(w, b"-") {
-        return FeedWord {
-            good: true,
-            feed: Feed::Nothing,
-        };
+        return Feed::Nothing;
     }
-    let i = index(b"src amt out", trace_input_session::before(w, 58));
-    let n = trace_input_session::whole_to(trace_input_session::after(w, 58), most_fed(i));
-    let feed = feed_of(i, n.value as usize);
-    FeedWord {
-        good: both(i < 3, n.good),
-        feed,
-    }
+    let i = trace_input_session::index(b"src amt out", trace_input_session::before(w, 58));
+    feed_of(i, number(trace_input_session::after(w, 58)))
 }
 
 // ---- slots
 
-pub struct PickWord {
-    pub good: bool,
-    pub pick: Pick,
-}
-
-pub struct AimWord {
-    pub good: bool,
-    pub aim: Aim,
-}
-
-pub struct PolarityWord {
-    pub good: bool,
-    pub polarity: Polarity,
-}
-
 // a source's number, or `-`
-pub fn pick(w: &[u8]) -> PickWord {
+pub fn pick(w: &[u8]) -> Pick {
     if trace_input_session::is(w, b"-") {
-        return PickWord {
-            good: true,
-            pick: Pick::Nothing,
-        };
+        return Pick::Nothing;
     }
-    let n = trace_input_session::whole_to(w, 65535);
-    PickWord {
-        good: n.good,
-        pick: Pick::Source(n.value as usize),
-    }
+    Pick::Source(number(w))
 }
 
 // a target, or `-`
-pub fn aim(w: &[u8]) -> AimWord {
+pub fn aim(w: &[u8]) -> Aim {
     if trace_input_session::is(w, b"-") {
-        return AimWord {
-            good: true,
-            aim: Aim::Nothing,
-        };
+        return Aim::Nothing;
     }
-    let t = target(w);
-    let at = t.target;
-    AimWord {
-        good: t.good,
-        aim: Aim::At(at),
-    }
-}
-
-fn polarity_of(i: usize) -> Polarity {
-    if i == 0 {
-        return Polarity::Unipolar;
-    }
-    Polarity::Bipolar
+    let at = target(w);
+    Aim::At(at)
 }
 
 // `u` or `b`
-pub fn polarity(w: &[u8]) -> PolarityWord {
-    let i = index(b"u b", w);
-    let polarity = polarity_of(i);
-    PolarityWord {
-        good: i < 2,
-        polarity,
+pub fn polarity(w: &[u8]) -> Polarity {
+    if trace_input_session::is(w, b"u") {
+        return Polarity::Unipolar;
     }
+    Polarity::Bipolar
 }

@@ -1,84 +1,30 @@
-// Which line is which, and what is printed above a line's answers and where it is refused (oracle/README.md, Session format).
+// A line in hand: what is printed above its answers, where it is refused, and where it ends the session (docs/SESSIONS.md, How a line reads).
 ghost use mathlib.Core.Path.{_≡_};
-ghost use Prim.Native.Nat.{_≤_};
-ghost use Rattle.trace_lines_answer.specs.Endings.{afterCode, statusOf};
+ghost use mathlib.Core.Bool.{cond};
+ghost use Rattle.trace_lines_answer.specs.Endings.{afterCode, Begun, codeOf, cutCode, statusOf};
+
+mod absent;
+mod faults;
+
+use absent::Absent;
+use trace_grammar::Line;
+use trace_grammar::Registry;
 use trace_setup_preset::LONG_TABLES;
-use trace_setup_preset::MALFORMED;
 use trace_setup_preset::MANY_TABLES;
+use trace_setup_preset::NO_ENTRY;
 use trace_setup_preset::NONE;
 use trace_setup_roster::MANY_KEYS;
 use trace_store_book::PRINT;
-use trace_store_book::THERE;
 use trace_store_titles::MANY_PROGRAMS;
 
 // A line that is longer than the buffer.
 const LONG_LINE: u8 = 115;
 
-// A word that begins no line of the format.
-const UNKNOWN: u8 = 101;
+// A word that does not belong where it stands, or one that is missing.
+const MALFORMED: u8 = 100;
 
 // The input can't be read to its end.
 const UNREAD: u8 = 102;
-
-// ---- commands, by their numbers
-
-// How many commands there are. A word that is none of them has this number.
-const COMMANDS: usize = 39;
-
-// The number of a line with nothing to answer: it is blank, or a comment.
-pub const NOTHING: usize = 40;
-
-fn command_of(w: &[u8]) -> usize {
-    trace_input_words::index(
-        b"config source dest newreg find table slot note clear matrix_put compile swap engine memory_len print canon bind unbind signal_part set_held set_voice_held set_base set_amount set_output set_voice_limit note_on note_off voice_ended set_rng process out latest latest_all ramp is_active rate state memory standard",
-        w,
-    )
-}
-
-// the fewest words that command c has, and the most
-fn fewest(c: usize) -> usize {
-    trace_input_words::listed(
-        b"4 5 7 1 2 3 2 5 1 4 2 2 1 3 2 2 4 1 5 3 4 3 3 3 2 6 3 2 2 3 1 3 3 3 2 2 1 1 5",
-        c,
-    )
-}
-
-fn most(c: usize) -> usize {
-    trace_input_words::listed(
-        b"4 5 7 1 2 65536 65536 5 1 4 2 2 1 3 2 2 65536 2 5 3 4 3 3 3 2 6 3 2 2 3 3 3 3 3 2 2 1 1 65536",
-        c,
-    )
-}
-
-// whether command c is about an engine
-fn asks_engine(c: usize) -> bool {
-    if 18 < c {
-        return c < 38;
-    }
-    c == 11
-}
-
-// What is wrong with a line of n words by its command alone; 0: nothing.
-pub fn misfit(c: usize, n: usize, all: bool, book: &[usize]) -> u8
-    ensures { λ r. ⌜ (39 ≤ c → r ≡ 101) ⌝ }
-{
-    if COMMANDS <= c {
-        return UNKNOWN;
-    }
-    if !all {
-        return LONG_LINE;
-    }
-    if n < fewest(c) {
-        return MALFORMED;
-    }
-    if most(c) < n {
-        return MALFORMED;
-    }
-    if asks_engine(c) && trace_store_book::get(book, THERE) == 0 {
-        return MALFORMED;
-    }
-    0
-}
 
 // ---- what is printed
 
@@ -95,11 +41,12 @@ fn head(number: u64, w: &[u8], out: &mut [u8], at: usize) -> usize {
     trace_output_show::put(out, p, b"\n")
 }
 
-fn headed(c: usize, number: u64, w: &[u8], book: &[usize], out: &mut [u8], at: usize) -> usize {
-    if c == 14 {
+// the same, where something stands there: nothing above a line `print`, and where no answers are printed
+fn headed(said: Line, number: u64, w: &[u8], book: &[usize], out: &mut [u8], at: usize) -> usize {
+    if !has_head(said) {
         return at;
     }
-    if c == COMMANDS {
+    if trace_input_session::is(w, b"print") {
         return at;
     }
     if is_quiet(book) {
@@ -126,13 +73,13 @@ fn configured(a: usize, b: usize, out: &mut [u8], at: usize) -> usize {
 }
 
 // what a line about registries prints
-fn registered(c: usize, a: usize, b: usize, out: &mut [u8], at: usize) -> usize {
+fn registered(c: Registry, a: usize, b: usize, out: &mut [u8], at: usize) -> usize {
     match c {
-        0 => configured(a, b, out, at),
-        1 => numbered(b"SOURCE ", a, out, at),
-        2 => numbered(b"DEST ", a, out, at),
-        4 => found(a, out, at),
-        _ => at,
+        Registry::Config => configured(a, b, out, at),
+        Registry::Source => numbered(b"SOURCE ", a, out, at),
+        Registry::Dest => numbered(b"DEST ", a, out, at),
+        Registry::Newreg => at,
+        Registry::Find => found(a, out, at),
     }
 }
 
@@ -168,45 +115,29 @@ fn large(code: u8, out: &mut [u8], at: usize) -> usize {
 }
 
 fn error(code: u8, out: &mut [u8], at: usize) -> usize {
-    if code == UNREAD {
-        return trace_output_show::put(out, at, b"the input can't be read\n");
+    if code == NO_ENTRY {
+        return trace_output_show::put(out, at, b"the table has no such entry\n");
     }
-    trace_output_show::put(
-        out,
-        at,
-        b"a word that does not belong there, or nothing there that it names\n",
-    )
+    trace_output_show::put(out, at, b"the input can't be read\n")
 }
 
-// The first word of a line, which is no command: the session ends.
-fn unknown(w: &[u8], number: u64, out: &mut [u8], at: usize) -> usize {
-    let p = trace_output_show::whole_after(out, at, b"ERROR line ", number);
-    let q = trace_output_show::put(out, p, b": ");
-    let r = trace_output_show::quoted(out, q, w);
-    trace_output_show::put(out, r, b" is no command\n")
+// what stands before the words by which the session ends at a line
+fn at_line(name: &[u8], number: u64, out: &mut [u8], at: usize) -> usize {
+    let p = trace_output_show::whole_after(out, at, name, number);
+    trace_output_show::put(out, p, b": ")
 }
 
-// The words by which the session ends at a line.
-pub fn stopped(code: u8, number: u64, line: &[u8], out: &mut [u8], at: usize) -> usize {
-    if code == UNKNOWN {
-        return unknown(trace_input_session::word(line, 0), number, out, at);
-    }
-    coded(code, number, out, at)
-}
-
-// The number by which a line was refused, or the words by which the session ends
+// The number by which a line was refused, or the words by which the session ends.
 pub fn coded(code: u8, number: u64, out: &mut [u8], at: usize) -> usize {
     if code < 16 {
         return numbered(b"REFUSED ", code as usize, out, at);
     }
     if code < MANY_TABLES {
-        let p = trace_output_show::whole_after(out, at, b"ERROR line ", number);
-        let q = trace_output_show::put(out, p, b": ");
-        return error(code, out, q);
+        let p = at_line(b"ERROR line ", number, out, at);
+        return error(code, out, p);
     }
-    let p = trace_output_show::whole_after(out, at, b"TOO LARGE line ", number);
-    let q = trace_output_show::put(out, p, b": ");
-    large(code, out, q)
+    let p = at_line(b"TOO LARGE line ", number, out, at);
+    large(code, out, p)
 }
 
 // ---- how a session ends
@@ -267,49 +198,137 @@ pub fn told(code: u8, number: u64, out: &mut [u8], at: usize) -> usize {
 
 // ---- a line in hand
 
-// A line in hand: its number, its command and how many words it has; `at` bytes of output wait.
+// A line in hand: its number, and what it is; `at` bytes of output wait. `code`: by which it ends the session before its call is
+// made; 0 where it does not.
 pub struct Hand {
     pub at: usize,
     pub number: u64,
-    pub c: usize,
-    pub n: usize,
+    pub code: u8,
+    pub said: Line,
 }
 
-// What a line about registries and the matrix prints.
-pub fn put_changed(h: Hand, code: u8, a: usize, b: usize, book: &[usize], out: &mut [u8]) -> usize {
+// What a line about the configuration and the registries prints.
+pub fn put_changed(
+    h: Hand,
+    c: Registry,
+    code: u8,
+    a: usize,
+    b: usize,
+    book: &[usize],
+    out: &mut [u8],
+) -> usize {
     if code != 0 {
         return coded(code, h.number, out, h.at);
     }
     if is_quiet(book) {
         return h.at;
     }
-    registered(h.c, a, b, out, h.at)
+    registered(c, a, b, out, h.at)
 }
 
-// whether a line has nothing to answer: it is blank, or its first word begins with #
-fn is_silent(w: &[u8]) -> bool {
-    if w.len() == 0 {
-        return true;
+// the code of a cut line whose error is at word n
+fn cut(n: usize) -> u8
+    ensures { λ r. ⌜ r ≡ cutCode n ⌝ }
+{
+    if n == 1 {
+        return MALFORMED;
     }
-    w[0] == 35
+    LONG_LINE
 }
 
-// The line in hand, once what stands above its answers is printed: nothing above a word that is no command.
-pub fn begun(at: usize, number: u64, line: &[u8], book: &[usize], out: &mut [u8]) -> Hand {
+fn whole_or(all: bool, code: u8, other: u8) -> u8
+    ensures { λ r. ⌜ r ≡ cond all code other ⌝ }
+{
+    if all {
+        return code;
+    }
+    other
+}
+
+// The code of a line, whole where `all` says so: 0 where it is a call, blank or a comment.
+fn code_of(said: Line, all: bool) -> u8
+    ensures { λ r. ⌜ r ≡ codeOf said all ⌝ }
+{
+    match said {
+        Line::Nothing => 0,
+        Line::Call {
+            command: _,
+            words: _,
+        } => whole_or(all, 0, LONG_LINE),
+        Line::Missing { words: _, kind: _ } => whole_or(all, MALFORMED, LONG_LINE),
+        Line::Wrong { word, kind: _ } => whole_or(all, MALFORMED, cut(word)),
+    }
+}
+
+// whether something stands above a line's answers: nothing above a word that is no command
+fn has_head(said: Line) -> bool {
+    match said {
+        Line::Nothing => false,
+        Line::Call {
+            command: _,
+            words: _,
+        } => true,
+        Line::Missing { words: _, kind: _ } => true,
+        Line::Wrong { word, kind: _ } => word != 1,
+    }
+}
+
+// the words by which a line ends the session
+fn stopped(code: u8, said: Line, number: u64, line: &[u8], out: &mut [u8], at: usize) -> usize {
+    if code == LONG_LINE {
+        return coded(code, number, out, at);
+    }
+    let p = at_line(b"ERROR line ", number, out, at);
+    faults::put(said, line, out, p)
+}
+
+// what a line without errors names that is not there
+fn missed(code: u8, said: Line, line: &[u8], book: &[usize]) -> Absent {
+    if code != 0 {
+        return absent::nothing();
+    }
+    let Line::Call { command, words: _ } = said else {
+        return absent::nothing();
+    };
+    absent::of(command, line, book)
+}
+
+// what is said where a line ends the session: of its code, or of what is not there
+fn put_stop(
+    code: u8,
+    a: Absent,
+    said: Line,
+    number: u64,
+    line: &[u8],
+    out: &mut [u8],
+    at: usize,
+) -> usize {
+    if code != 0 {
+        return stopped(code, said, number, line, out, at);
+    }
+    if a.code == 0 {
+        return at;
+    }
+    let p = at_line(b"ERROR line ", number, out, at);
+    absent::put(a, line, out, p)
+}
+
+// The line in hand, whole where `all` says so, once what stands above its answers is printed, and what ends the session
+// there.
+pub fn begun(at: usize, number: u64, all: bool, line: &[u8], book: &[usize], out: &mut [u8]) -> Hand
+    ensures { λ r. ⌜ Begun (now (line .entry)) all r ⌝ }
+{
+    let said = trace_grammar::line_of(line);
     let w = trace_input_session::word(line, 0);
-    if is_silent(w) {
-        return Hand {
-            at,
-            number,
-            c: NOTHING,
-            n: 0,
-        };
-    }
-    let c = command_of(w);
+    let p = headed(said, number, w, book, out, at);
+    let code = code_of(said, all);
+    let a = missed(code, said, line, book);
+    let q = put_stop(code, a, said, number, line, out, p);
+    let ended = after(a.code, code);
     Hand {
-        at: headed(c, number, w, book, out, at),
+        at: q,
         number,
-        c,
-        n: trace_input_session::count(line),
+        code: ended,
+        said,
     }
 }

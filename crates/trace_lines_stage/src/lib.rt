@@ -4,6 +4,10 @@ use engine::Engine;
 use state::Program;
 use state::Signals;
 use state::Sources;
+use trace_grammar::Editing;
+use trace_grammar::Lending;
+use trace_grammar::Making;
+use trace_grammar::Registry;
 use trace_lines_answer::Hand;
 use trace_programs::Whole;
 use trace_setup_preset::Changed;
@@ -28,43 +32,48 @@ pub struct After {
 
 // ---- lines about what a program is compiled from
 
-fn changed(
-    p: Preset,
-    h: Hand,
-    line: &[u8],
-    book: &mut [usize],
-    desk: &mut [f32],
-    audio: &mut [f32],
-) -> Changed {
-    if h.c < 5 {
-        return trace_setup_preset::registry_line(p, h.c, line);
-    }
-    trace_setup_preset::matrix_line(p, h.c, line, h.n, book, audio, desk)
-}
-
-fn with_changed(s: State, h: Hand, r: Changed, book: &mut [usize], out: &mut [u8]) -> State {
+fn with_changed(s: State, r: Changed, at: usize) -> State {
     let preset = r.preset;
-    trace_store_book::set(book, DESTS, trace_setup_preset::dests(preset));
     let mut next = s;
     next.preset = preset;
-    next.at = trace_lines_answer::put_changed(h, r.code, r.a, r.b, book, out);
+    next.at = at;
     next.code = trace_lines_answer::after(s.code, r.code);
     next
 }
 
-// Lines about what a program is compiled from
-pub fn on_preset(
+// Lines about the configuration and the registries
+pub fn on_registry(
     s: State,
     h: Hand,
+    c: Registry,
     line: &[u8],
+    out: &mut [u8],
+    book: &mut [usize],
+) -> State {
+    let before = s.preset;
+    let r = trace_setup_preset::registry_line(before, c, line);
+    let preset = r.preset;
+    trace_store_book::set(book, DESTS, trace_setup_preset::dests(preset));
+    let at = trace_lines_answer::put_changed(h, c, r.code, r.a, r.b, book, out);
+    with_changed(s, r, at)
+}
+
+// Lines of n words about the matrix and its tables
+pub fn on_matrix(
+    s: State,
+    h: Hand,
+    c: Editing,
+    line: &[u8],
+    n: usize,
     out: &mut [u8],
     book: &mut [usize],
     desk: &mut [f32],
     audio: &mut [f32],
 ) -> State {
     let before = s.preset;
-    let r = changed(before, h, line, book, desk, audio);
-    with_changed(s, h, r, book, out)
+    let r = trace_setup_preset::matrix_line(before, c, line, n, book, audio, desk);
+    let at = trace_lines_answer::told(r.code, h.number, out, h.at);
+    with_changed(s, r, at)
 }
 
 fn with_sources(s: State, sources: Sources, h: Hand, book: &[usize], out: &mut [u8]) -> State {
@@ -96,24 +105,24 @@ pub fn on_standard(s: State, h: Hand, line: &[u8], out: &mut [u8], book: &[usize
 
 // ---- lines about programs and the engine as a whole
 
-fn put_whole(r: Whole, h: Hand, book: &[usize], out: &mut [u8]) -> usize {
+fn put_whole(r: Whole, h: Hand, c: Making, book: &[usize], out: &mut [u8]) -> usize {
     if r.code != 0 {
         return trace_lines_answer::coded(r.code, h.number, out, r.at);
     }
     if trace_lines_answer::is_quiet(book) {
         return r.at;
     }
-    trace_programs::put(r, h.c, book, out)
+    trace_programs::put(r, c, book, out)
 }
 
-fn with_whole(s: State, r: Whole, h: Hand, book: &[usize], out: &mut [u8]) -> After {
+fn with_whole(s: State, r: Whole, h: Hand, c: Making, book: &[usize], out: &mut [u8]) -> After {
     let engine = r.engine;
     let signals = r.signals;
     let program = r.program;
     let mut state = s;
     state.engine = engine;
     state.signals = signals;
-    state.at = put_whole(r, h, book, out);
+    state.at = put_whole(r, h, c, book, out);
     state.code = trace_lines_answer::after(s.code, r.code);
     After {
         state,
@@ -141,6 +150,7 @@ pub fn on_whole(
     p: Program,
     i: usize,
     h: Hand,
+    c: Making,
     out: &mut [u8],
     book: &mut [usize],
     desk: &mut [f32],
@@ -150,23 +160,25 @@ pub fn on_whole(
 ) -> After {
     let preset = s.preset;
     let t = whole_of(s, p, i, h.at);
-    let r = trace_programs::whole_line(t, preset, h.c, i, book, desk, values, audio, pool);
-    with_whole(s, r, h, book, out)
+    let r = trace_programs::whole_line(t, preset, c, i, book, desk, values, audio, pool);
+    with_whole(s, r, h, c, book, out)
 }
 
 // ---- lines about what calls are lent
 
-// Lines about what calls are lent
+// Lines of n words about what calls are lent, and how outputs print
 pub fn on_lending(
     s: State,
     h: Hand,
+    c: Lending,
     line: &[u8],
+    n: usize,
     out: &mut [u8],
     book: &mut [usize],
     pool: &mut [f32],
 ) -> State {
     let before = s.signals;
-    let b = trace_setup_lending::lending_line(before, h.c, line, h.n, book, pool);
+    let b = trace_setup_lending::lending_line(before, c, line, n, book, pool);
     let signals = b.signals;
     let mut next = s;
     next.signals = signals;

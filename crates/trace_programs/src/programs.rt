@@ -5,10 +5,10 @@ use engine::Swapped;
 use state::Compiled;
 use state::Program;
 use state::Signals;
+use trace_grammar::Making;
 use trace_setup_lending::moved;
 use trace_setup_lending::pool_top;
 use trace_setup_preset::DESK;
-use trace_setup_preset::MALFORMED;
 use trace_setup_preset::NUMBERS;
 use trace_setup_preset::Preset;
 use trace_store_book::AUDIO;
@@ -314,26 +314,6 @@ fn shelved(
     }
 }
 
-// the number of the installed program by its name
-fn installed_name(book: &[usize]) -> usize {
-    let i = trace_store_book::get(book, INSTALLED);
-    if i == BARE {
-        return 0;
-    }
-    i
-}
-
-// what stands in the way of compiling program i
-fn name_code(book: &[usize], i: usize) -> u8 {
-    if PROGRAMS <= i {
-        return MANY_PROGRAMS;
-    }
-    if installed_name(book) == i {
-        return MALFORMED;
-    }
-    0
-}
-
 fn with_new(t: Whole, i: usize, program: Program, book: &[usize]) -> Whole {
     let before = t.signals;
     let signals = moved(before, book);
@@ -389,9 +369,8 @@ fn on_compile(
     audio: &mut [f32],
     pool: &mut [f32],
 ) -> Whole {
-    let code = name_code(book, i);
-    if code != 0 {
-        return refused(t, code);
+    if PROGRAMS <= i {
+        return refused(t, MANY_PROGRAMS);
     }
     on_program(t, p, i, book, desk, values, audio, pool)
 }
@@ -464,7 +443,7 @@ fn own_mark(old: usize) -> usize {
 // program i is installed, under the number k, and the old one is outside; answers the number of the old one by its name
 fn exchanged(book: &mut [usize], i: usize, k: usize) -> usize {
     let old = trace_store_book::get(book, INSTALLED);
-    let j = installed_name(book);
+    let j = trace_store_titles::installed(book);
     trace_store_book::set(book, trace_store_book::sum(OUTSIDE, i), 0);
     trace_store_book::set(book, trace_store_book::sum(OUTSIDE, j), 1);
     trace_store_book::set(book, INSTALLED, k);
@@ -507,8 +486,8 @@ fn installed(
     with_swapped(t, w, settled(book, i, k, needs))
 }
 
-// program i, which is outside, is installed
-fn swapped(t: Whole, i: usize, book: &mut [usize], values: &mut [f32], audio: &mut [f32]) -> Whole {
+// `swap NAME`: program i, which is outside, is installed
+fn on_swap(t: Whole, i: usize, book: &mut [usize], values: &mut [f32], audio: &mut [f32]) -> Whole {
     let e = t.engine;
     let p = t.program;
     let w = e.swap(p);
@@ -517,14 +496,6 @@ fn swapped(t: Whole, i: usize, book: &mut [usize], values: &mut [f32], audio: &m
         return refused(t, code);
     }
     installed(t, w, i, needs_of(p), book, values, audio)
-}
-
-// `swap NAME`
-fn on_swap(t: Whole, i: usize, book: &mut [usize], values: &mut [f32], audio: &mut [f32]) -> Whole {
-    if !trace_store_titles::is_outside(book, i) {
-        return refused(t, MALFORMED);
-    }
-    swapped(t, i, book, values, audio)
 }
 
 // ---- a new engine
@@ -670,11 +641,11 @@ fn on_engine(
     engine_set(t, m, n, book, values, audio, pool)
 }
 
-// a line about program i whose command is c: 10 and on of `compile swap engine`
+// a line about program i, or about the engine as a whole
 pub fn whole_line(
     t: Whole,
     p: Preset,
-    c: usize,
+    c: Making,
     i: usize,
     book: &mut [usize],
     desk: &mut [f32],
@@ -683,9 +654,9 @@ pub fn whole_line(
     pool: &mut [f32],
 ) -> Whole {
     match c {
-        10 => on_compile(t, p, i, book, desk, values, audio, pool),
-        11 => on_swap(t, i, book, values, audio),
-        _ => on_engine(t, p, book, desk, values, audio, pool),
+        Making::Compile => on_compile(t, p, i, book, desk, values, audio, pool),
+        Making::Swap => on_swap(t, i, book, values, audio),
+        Making::Engine => on_engine(t, p, book, desk, values, audio, pool),
     }
 }
 
@@ -707,13 +678,13 @@ fn put_program(p: Program, out: &mut [u8], at: usize) -> usize {
     trace_print_dump::program(p, program::stride(config).n, out, at)
 }
 
-// what a line whose command is c, and that was not refused, prints
-pub fn put(t: Whole, c: usize, book: &[usize], out: &mut [u8]) -> usize {
+// what a line that was not refused prints
+pub fn put(t: Whole, c: Making, book: &[usize], out: &mut [u8]) -> usize {
     let program = t.program;
     let engine = t.engine;
     match c {
-        10 => put_program(program, out, t.at),
-        11 => put_swap(book, t.i, out, t.at),
-        _ => put_engine(engine, out, t.at),
+        Making::Compile => put_program(program, out, t.at),
+        Making::Swap => put_swap(book, t.i, out, t.at),
+        Making::Engine => put_engine(engine, out, t.at),
     }
 }

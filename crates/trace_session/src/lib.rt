@@ -44,21 +44,8 @@ fn answered_with(
     let mut shelf = s.shelf;
     let k = trace_dispatch::place(i);
     let p = shelf[k];
-    let h = trace_dispatch::begun(state, number, line, book, out);
-    let next = trace_dispatch::on_line(
-        state,
-        p,
-        i,
-        h,
-        all,
-        line,
-        out,
-        book,
-        desk,
-        values,
-        audio,
-        pool,
-    );
+    let h = trace_dispatch::begun(state, number, all, line, book, out);
+    let next = trace_dispatch::on_line(state, p, i, h, line, out, book, desk, values, audio, pool);
     let j = trace_dispatch::place(next.i);
     let q = next.program;
     shelf[j] = q;

@@ -5,7 +5,7 @@ use config::SOURCES;
 use state::Bound;
 use state::SignalPart;
 use state::Signals;
-use trace_setup_preset::MALFORMED;
+use trace_grammar::Lending;
 use trace_store_book::NAMED;
 use trace_store_book::SAMPLES_PARTS;
 use trace_store_book::TABLES_PARTS;
@@ -104,24 +104,12 @@ fn rest(line: &[u8]) -> &[u8] {
     trace_input_session::part(line, trace_input_session::place(line, 1), line.len())
 }
 
-fn is_samples(line: &[u8], n: usize) -> bool {
-    let i = trace_input_words::index_at(b"hex gen", line, 3);
-    if i == 0 {
-        return true;
-    }
-    if i == 1 {
-        return n == 7;
-    }
-    false
-}
-
-// what samples that were made come to: `made` is 1 where they are malformed, 2 where there is no room
+// what samples that were made come to: `made` is 0 where there is room for them
 fn made_code(made: u8) -> u8 {
-    match made {
-        0 => 0,
-        1 => MALFORMED,
-        _ => POOL_FULL,
+    if made == 0 {
+        return 0;
     }
+    POOL_FULL
 }
 
 // source i is bound to `len` numbers from `at` on
@@ -137,24 +125,23 @@ fn joined(
     engine::bind(moved(signals, book), i, at, len, stride)
 }
 
-// the samples of a line of n words, behind the pool's parts
-fn made(line: &[u8], n: usize, at: usize, pool: &mut [f32]) -> TableMade {
-    trace_store_names::make(rest(line), trace_store_book::less(n, 1), pool, at)
+// the samples of a line, behind the pool's parts
+fn made(line: &[u8], at: usize, pool: &mut [f32]) -> TableMade {
+    trace_store_names::make(rest(line), pool, at)
 }
 
-// source i is bound to the samples of a line of n words
+// source i is bound to the samples of a line
 fn bound(
     signals: Signals,
     i: usize,
     stride: usize,
     line: &[u8],
-    n: usize,
     book: &mut [usize],
     pool: &mut [f32],
 ) -> Bound {
     freed(book, pool, i);
     let at = pool_top(book);
-    let m = made(line, n, at, pool);
+    let m = made(line, at, pool);
     let code = made_code(m.code);
     if code != 0 {
         return failed(signals, code);
@@ -163,11 +150,8 @@ fn bound(
 }
 
 // `bind SOURCE STRIDE hex X ..` and `bind SOURCE STRIDE gen SEED LEN KIND`
-fn on_bind(signals: Signals, line: &[u8], n: usize, book: &mut [usize], pool: &mut [f32]) -> Bound {
+fn on_bind(signals: Signals, line: &[u8], book: &mut [usize], pool: &mut [f32]) -> Bound {
     let w = trace_input_words::pair(line);
-    if !trace_input_words::both(w.good, is_samples(line, n)) {
-        return failed(signals, MALFORMED);
-    }
     let code = engine::bind(signals, w.a, 0, 0, w.b).code;
     if code != 0 {
         return failed(signals, code);
@@ -175,7 +159,7 @@ fn on_bind(signals: Signals, line: &[u8], n: usize, book: &mut [usize], pool: &m
     if SOURCES <= w.a {
         return failed(signals, 0);
     }
-    bound(signals, w.a, w.b, line, n, book, pool)
+    bound(signals, w.a, w.b, line, book, pool)
 }
 
 fn free_all(book: &mut [usize], pool: &mut [f32]) {
@@ -198,25 +182,19 @@ fn on_unbind(
         free_all(book, pool);
         return failed(engine::no_signals(), 0);
     }
-    let w = trace_input_words::number_at(line, 1);
-    if !w.good {
-        return failed(signals, MALFORMED);
-    }
-    if SOURCES <= w.n {
+    let i = trace_input_words::number_at(line, 1);
+    if SOURCES <= i {
         return failed(signals, 0);
     }
-    freed(book, pool, w.n);
-    engine::bind(moved(signals, book), w.n, 0, 0, 0)
+    freed(book, pool, i);
+    engine::bind(moved(signals, book), i, 0, 0, 0)
 }
 
 // a number, `end` or `end+1` of a memory of so many numbers
-fn place_at(line: &[u8], k: usize, have: usize) -> trace_input_words::NumberWord {
+fn place_at(line: &[u8], k: usize, have: usize) -> usize {
     let i = trace_input_words::index_at(b"end end+1", line, k);
     if i < 2 {
-        return trace_input_words::NumberWord {
-            good: true,
-            n: trace_store_book::sum(have, i),
-        };
+        return trace_store_book::sum(have, i);
     }
     trace_input_words::number_at(line, k)
 }
@@ -233,48 +211,29 @@ fn with_part(signals: Signals, i: usize, part: SignalPart) -> Signals {
 // `signal_part SOURCE AT LEN STRIDE`
 fn on_part(signals: Signals, line: &[u8], book: &mut [usize], pool: &mut [f32]) -> Bound {
     let i = trace_input_words::number_at(line, 1);
-    let at = place_at(line, 2, pool.len());
-    let len = place_at(line, 3, pool.len());
-    let stride = trace_input_words::number_at(line, 4);
-    if !trace_input_words::both(
-        trace_input_words::both(i.good, at.good),
-        trace_input_words::both(len.good, stride.good),
-    ) {
-        return failed(signals, MALFORMED);
-    }
-    if SOURCES <= i.n {
-        return failed(signals, MALFORMED);
-    }
-    freed(book, pool, i.n);
     let part = SignalPart {
-        at: at.n,
-        len: len.n,
-        stride: stride.n,
+        at: place_at(line, 2, pool.len()),
+        len: place_at(line, 3, pool.len()),
+        stride: trace_input_words::number_at(line, 4),
     };
-    failed(with_part(moved(signals, book), i.n, part), 0)
+    freed(book, pool, i);
+    failed(with_part(moved(signals, book), i, part), 0)
 }
 
 // ---- lengths and print
 
-// a length as the book has it; the last number there is where the word is none
+// a length as the book has it
 fn length_of(w: &[u8]) -> usize {
-    let i = trace_input_words::index(b"all need need-1", w);
+    let i = trace_input_session::index(b"all need need-1", w);
     if i < 3 {
         return i;
     }
-    let n = trace_input_session::whole_to(w, 1000000000000);
-    if n.good {
-        return trace_store_book::sum(n.value as usize, 3);
-    }
-    18446744073709551615
+    trace_store_book::sum(trace_input_words::number(w), 3)
 }
 
 // `memory_len WHAT LEN`
-fn on_memory_len(line: &[u8], book: &mut [usize]) -> u8 {
+fn on_memory_len(line: &[u8], book: &mut [usize]) {
     let n = length_of(trace_input_session::word(line, 2));
-    if n == 18446744073709551615 {
-        return MALFORMED;
-    }
     let k = trace_input_words::index_at(
         b"held globals bases values audio tables matrix_tables out engine",
         line,
@@ -282,54 +241,46 @@ fn on_memory_len(line: &[u8], book: &mut [usize]) -> u8 {
     );
     if k < 8 {
         trace_store_book::set(book, trace_store_book::sum(trace_store_book::LENT, k), n);
-        return 0;
-    }
-    if k != 8 {
-        return MALFORMED;
+        return;
     }
     trace_store_book::set(book, trace_store_book::LENT, n);
     trace_store_book::set(book, 1325, n);
     trace_store_book::set(book, 1326, n);
-    0
 }
 
-// number k of the book is the place in a list of the line's word 1
-fn chosen(list: &[u8], most: usize, k: usize, line: &[u8], book: &mut [usize]) -> u8 {
-    let i = trace_input_words::index_at(list, line, 1);
-    if most < i {
-        return MALFORMED;
-    }
-    trace_store_book::set(book, k, i);
-    0
+// the signals as they are, and other lengths
+fn lent(signals: Signals, line: &[u8], book: &mut [usize]) -> Bound {
+    on_memory_len(line, book);
+    failed(signals, 0)
 }
 
-// a line of n words whose command is c: 13 and on of `memory_len print canon bind unbind signal_part`
+// the signals as they are; number k of the book is the place in a list of the line's word 1
+fn chosen(signals: Signals, list: &[u8], k: usize, line: &[u8], book: &mut [usize]) -> Bound {
+    trace_store_book::set(book, k, trace_input_words::index_at(list, line, 1));
+    failed(signals, 0)
+}
+
+// a line of n words about what calls are lent, and how outputs print
 pub fn lending_line(
     signals: Signals,
-    c: usize,
+    c: Lending,
     line: &[u8],
     n: usize,
     book: &mut [usize],
     pool: &mut [f32],
 ) -> Bound {
     match c {
-        13 => failed(signals, on_memory_len(line, book)),
-        14 => failed(
+        Lending::MemoryLen => lent(signals, line, book),
+        Lending::Print => chosen(
             signals,
-            chosen(
-                b"full hash cases none",
-                3,
-                trace_store_book::PRINT,
-                line,
-                book,
-            ),
+            b"full hash cases none",
+            trace_store_book::PRINT,
+            line,
+            book,
         ),
-        15 => failed(
-            signals,
-            chosen(b"0 1", 1, trace_store_book::CANON, line, book),
-        ),
-        16 => on_bind(signals, line, n, book, pool),
-        17 => on_unbind(signals, line, n, book, pool),
-        _ => on_part(signals, line, book, pool),
+        Lending::Canon => chosen(signals, b"0 1", trace_store_book::CANON, line, book),
+        Lending::Bind => on_bind(signals, line, book, pool),
+        Lending::Unbind => on_unbind(signals, line, n, book, pool),
+        Lending::SignalPart => on_part(signals, line, book, pool),
     }
 }

@@ -2,8 +2,8 @@
 use crate::Changed;
 use crate::DESK;
 use crate::LONG_TABLES;
-use crate::MALFORMED;
 use crate::MANY_TABLES;
+use crate::NO_ENTRY;
 use crate::NUMBERS;
 use crate::Preset;
 use crate::fields::SlotLine;
@@ -13,7 +13,7 @@ use matrix::CurveSlot;
 use matrix::Edited;
 use matrix::NoteSlot;
 use state::Matrix;
-use trace_input_words::both;
+use trace_grammar::Editing;
 
 // ---- tables by name
 
@@ -77,10 +77,10 @@ fn kept(w: &[u8], len: usize, book: &mut [usize], numbers: &mut [f32]) -> u8 {
     0
 }
 
-// what a table that was made comes to: `made` is 1 where it is malformed, 2 where there is no room
+// what a table that was made comes to: `made` is 1 where an entry is not there, 2 where there is no room
 fn made_code(made: u8, end: usize) -> u8 {
     if made == 1 {
-        return MALFORMED;
+        return NO_ENTRY;
     }
     if made != 0 {
         return LONG_TABLES;
@@ -92,9 +92,9 @@ fn made_code(made: u8, end: usize) -> u8 {
 }
 
 // `table NAME SPEC`
-fn on_table(line: &[u8], n: usize, book: &mut [usize], numbers: &mut [f32]) -> u8 {
+fn on_table(line: &[u8], book: &mut [usize], numbers: &mut [f32]) -> u8 {
     let used = trace_store_book::get(book, trace_store_book::USED);
-    let made = trace_store_names::make(line, n, numbers, used);
+    let made = trace_store_names::make(line, numbers, used);
     let code = made_code(made.code, trace_store_book::sum(used, made.len));
     if code != 0 {
         return code;
@@ -300,18 +300,11 @@ fn on_slot(
     desk: &mut [f32],
 ) -> Edited {
     let i = trace_input_words::number_at(line, 1);
-    if !i.good {
-        return refused(m, MALFORMED);
-    }
-    let code = matrix::slot(m, i.n).code;
+    let code = matrix::slot(m, i).code;
     if code != 0 {
         return refused(m, code);
     }
-    let l = slot_line(line, n, book);
-    if !l.good {
-        return refused(m, MALFORMED);
-    }
-    slot_set(m, i.n, l, book, numbers, desk)
+    slot_set(m, i, slot_line(line, n, book), book, numbers, desk)
 }
 
 // ---- note curves
@@ -343,7 +336,6 @@ fn note_code(table: usize, book: &[usize], numbers: &[f32], desk: usize) -> u8 {
 
 // What a note's line says: which tables its curves name, and two marks.
 struct NoteLine {
-    good: bool,
     velocity: usize,
     key: usize,
     glide: bool,
@@ -351,16 +343,11 @@ struct NoteLine {
 }
 
 fn note_line(line: &[u8], book: &[usize]) -> NoteLine {
-    let velocity = named(trace_input_session::word(line, 1), book);
-    let key = named(trace_input_session::word(line, 2), book);
-    let glide = trace_input_words::flag_at(line, 3);
-    let legato = trace_input_words::flag_at(line, 4);
     NoteLine {
-        good: both(both(velocity != 0, key != 0), both(glide.good, legato.good)),
-        velocity,
-        key,
-        glide: glide.on,
-        legato: legato.on,
+        velocity: named(trace_input_session::word(line, 1), book),
+        key: named(trace_input_session::word(line, 2), book),
+        glide: trace_input_words::flag_at(line, 3),
+        legato: trace_input_words::flag_at(line, 4),
     }
 }
 
@@ -376,9 +363,6 @@ fn notes_set(m: Matrix, l: NoteLine, book: &[usize], numbers: &[f32], desk: &mut
 // `note VELOCITY_TABLE KEY_TABLE GLIDE VELOCITY_LEGATO`
 fn on_note(m: Matrix, line: &[u8], book: &[usize], numbers: &[f32], desk: &mut [f32]) -> Edited {
     let l = note_line(line, book);
-    if !l.good {
-        return refused(m, MALFORMED);
-    }
     let a = note_code(l.velocity, book, numbers, desk.len());
     let b = note_code(l.key, book, numbers, desk.len());
     let code = least(a, b);
@@ -398,20 +382,16 @@ fn store(numbers: &mut [f32], at: usize, x: f32) {
 }
 
 // `matrix_put PLACE ENTRY X`
-fn on_matrix_put(line: &[u8], desk: &mut [f32]) -> u8 {
+fn on_matrix_put(line: &[u8], desk: &mut [f32]) {
     let w = trace_input_words::pair(line);
-    let x = trace_input_words::float_at(line, 3);
-    if !both(w.good, x.good) {
-        return MALFORMED;
-    }
-    if 129 < w.a {
-        return MALFORMED;
-    }
-    if 512 < w.b {
-        return MALFORMED;
-    }
-    store(desk, DESK + w.a * 513 + w.b, x.value);
-    0
+    let at = DESK + trace_store_book::at_most(w.a, 129) * 513 + trace_store_book::at_most(w.b, 512);
+    store(desk, at, trace_input_words::float_at(line, 3));
+}
+
+// the matrix as it is, after the host's own writing
+fn put(m: Matrix, line: &[u8], desk: &mut [f32]) -> Edited {
+    on_matrix_put(line, desk);
+    refused(m, 0)
 }
 
 fn with_matrix(p: Preset, e: Edited) -> Changed {
@@ -428,7 +408,7 @@ fn with_matrix(p: Preset, e: Edited) -> Changed {
 
 fn edited_line(
     m: Matrix,
-    c: usize,
+    c: Editing,
     line: &[u8],
     n: usize,
     book: &mut [usize],
@@ -436,18 +416,18 @@ fn edited_line(
     desk: &mut [f32],
 ) -> Edited {
     match c {
-        5 => refused(m, on_table(line, n, book, numbers)),
-        6 => on_slot(m, line, n, book, numbers, desk),
-        7 => on_note(m, line, book, numbers, desk),
-        8 => refused(matrix::new(), 0),
-        _ => refused(m, on_matrix_put(line, desk)),
+        Editing::Table => refused(m, on_table(line, book, numbers)),
+        Editing::Slot => on_slot(m, line, n, book, numbers, desk),
+        Editing::Note => on_note(m, line, book, numbers, desk),
+        Editing::Clear => refused(matrix::new(), 0),
+        Editing::MatrixPut => put(m, line, desk),
     }
 }
 
-// a line of n words whose command is c: 5 and on of `table slot note clear matrix_put`
+// a line of n words about the matrix and its tables
 pub fn matrix_line(
     p: Preset,
-    c: usize,
+    c: Editing,
     line: &[u8],
     n: usize,
     book: &mut [usize],

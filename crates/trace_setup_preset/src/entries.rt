@@ -1,6 +1,5 @@
 // Lines about the configuration and the registries.
 use crate::Changed;
-use crate::MALFORMED;
 use crate::NONE;
 use crate::Preset;
 use crate::done;
@@ -11,6 +10,7 @@ use source::SourceAdded;
 use source::SourceFound;
 use state::Feed;
 use state::Target;
+use trace_grammar::Registry;
 
 fn configured(p: Preset, config: Config) -> Changed {
     let stride = program::stride(config);
@@ -26,12 +26,7 @@ fn configured(p: Preset, config: Config) -> Changed {
 
 // `config RATE FRAMES VOICES`
 fn on_config(p: Preset, line: &[u8]) -> Changed {
-    let w = trace_input_words::config(line);
-    if !w.good {
-        return failed(p, MALFORMED);
-    }
-    let config = w.config;
-    configured(p, config)
+    configured(p, trace_input_words::config(line))
 }
 
 fn source_set(p: Preset, added: SourceAdded) -> Changed {
@@ -48,9 +43,6 @@ fn source_set(p: Preset, added: SourceAdded) -> Changed {
 // `source KEY KIND SCOPE RANGE`
 fn on_source(p: Preset, line: &[u8]) -> Changed {
     let w = trace_input_words::source(line);
-    if !w.good {
-        return failed(p, MALFORMED);
-    }
     let kind = w.kind;
     let scope = w.scope;
     let range = w.range;
@@ -78,9 +70,6 @@ fn dest_set(p: Preset, added: DestAdded) -> Changed {
 
 fn dest_added(p: Preset, target: Target, feed: Feed, line: &[u8]) -> Changed {
     let w = trace_input_words::dest(line);
-    if !w.good {
-        return failed(p, MALFORMED);
-    }
     let scope = w.scope;
     let rate = w.rate;
     let dests = p.dests;
@@ -90,13 +79,8 @@ fn dest_added(p: Preset, target: Target, feed: Feed, line: &[u8]) -> Changed {
 
 // `dest TARGET SCOPE RATE MIN MAX FEED`
 fn on_dest(p: Preset, line: &[u8]) -> Changed {
-    let t = trace_input_words::target(trace_input_session::word(line, 1));
-    let f = trace_input_words::feed(trace_input_session::word(line, 6));
-    if !trace_input_words::both(t.good, f.good) {
-        return failed(p, MALFORMED);
-    }
-    let target = t.target;
-    let feed = f.feed;
+    let target = trace_input_words::target(trace_input_session::word(line, 1));
+    let feed = trace_input_words::feed(trace_input_session::word(line, 6));
     dest_added(p, target, feed, line)
 }
 
@@ -128,13 +112,13 @@ fn on_newreg(p: Preset) -> Changed {
     done(next, 0, 0)
 }
 
-// a line whose command is c of `config source dest newreg find`
-pub fn registry_line(p: Preset, c: usize, line: &[u8]) -> Changed {
+// a line about the configuration and the registries
+pub fn registry_line(p: Preset, c: Registry, line: &[u8]) -> Changed {
     match c {
-        0 => on_config(p, line),
-        1 => on_source(p, line),
-        2 => on_dest(p, line),
-        3 => on_newreg(p),
-        _ => on_find(p, line),
+        Registry::Config => on_config(p, line),
+        Registry::Source => on_source(p, line),
+        Registry::Dest => on_dest(p, line),
+        Registry::Newreg => on_newreg(p),
+        Registry::Find => on_find(p, line),
     }
 }

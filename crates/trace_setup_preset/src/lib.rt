@@ -6,6 +6,7 @@ mod fields;
 
 use config::Config;
 pub use curves::matrix_line;
+pub use curves::named;
 pub use entries::registry_line;
 use state::Destinations;
 use state::Matrix;
@@ -27,8 +28,8 @@ pub struct Changed {
     pub preset: Preset,
 }
 
-// A line that is not of the format.
-pub const MALFORMED: u8 = 100;
+// A table's line that asks for an entry that is not there.
+pub const NO_ENTRY: u8 = 108;
 
 // More tables than there are places, or longer names.
 pub const MANY_TABLES: u8 = 110;

@@ -19,9 +19,6 @@ const BYTES: usize = 8192;
 // More keys, or longer ones, than there is room for.
 pub const MANY_KEYS: u8 = 116;
 
-// A count that is not a whole number.
-const MALFORMED: u8 = 100;
-
 // no room
 const FULL: usize = 65536;
 
@@ -114,21 +111,11 @@ fn keys_of(line: &[u8]) -> usize {
 
 // `standard ENVELOPES LFOS MACROS VALUES KEY ..`
 pub fn made(line: &[u8]) -> StandardMade {
-    let a = trace_input_words::number_at(line, 1);
-    let b = trace_input_words::number_at(line, 2);
-    let c = trace_input_words::number_at(line, 3);
-    let d = trace_input_words::number_at(line, 4);
-    if !trace_input_words::both(
-        trace_input_words::both(a.good, b.good),
-        trace_input_words::both(c.good, d.good),
-    ) {
-        return refused(MALFORMED);
-    }
     let counts = Counts {
-        envelopes: a.n,
-        lfos: b.n,
-        macros: c.n,
-        sequence_values: d.n,
+        envelopes: trace_input_words::number_at(line, 1),
+        lfos: trace_input_words::number_at(line, 2),
+        macros: trace_input_words::number_at(line, 3),
+        sequence_values: trace_input_words::number_at(line, 4),
     };
     made_with(counts, line, keys_of(line))
 }

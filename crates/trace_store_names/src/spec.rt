@@ -1,8 +1,8 @@
 // What a table's line stands for (oracle/README.md, Session format): its numbers, written from a place of the memory on.
-ghost use Prim.Native.Nat.{_+_, _≤_};
+ghost use Prim.Native.Nat.{_+_, _<_, _≤_};
 ghost use lib.ListN.{length};
 
-// How many numbers were made; `code` is 0, 1 where the line is malformed, 2 where there is no room.
+// How many numbers were made; `code` is 0, 1 where an entry is not there, 2 where there is no room.
 pub struct TableMade {
     pub code: u8,
     pub len: usize,
@@ -12,7 +12,7 @@ fn made(len: usize) -> TableMade {
     TableMade { code: 0, len }
 }
 
-fn malformed() -> TableMade {
+fn no_entry() -> TableMade {
     TableMade { code: 1, len: 0 }
 }
 
@@ -142,28 +142,12 @@ fn drawn(kind: u8, s: u64) -> f32 {
     }
 }
 
-fn is_kind(b: u8) -> bool {
-    match b {
-        117 => true,
-        98 => true,
-        116 => true,
-        120 => true,
-        121 => true,
-        114 => true,
-        _ => false,
-    }
-}
-
-// the letter of a kind; 0 for any other word
+// the letter of a kind
 fn kind_of(w: &[u8]) -> u8 {
-    if w.len() != 1 {
+    if w.len() == 0 {
         return 0;
     }
-    let b = w[0];
-    if is_kind(b) {
-        return b;
-    }
-    0
+    w[0]
 }
 
 fn fill_drawn(numbers: &mut [f32], at: usize, n: usize, seed: u64, kind: u8)
@@ -179,10 +163,7 @@ fn fill_drawn(numbers: &mut [f32], at: usize, n: usize, seed: u64, kind: u8)
 }
 
 // n numbers drawn
-pub fn generated(numbers: &mut [f32], at: usize, n: usize, seed: u64, kind: u8) -> TableMade {
-    if kind == 0 {
-        return malformed();
-    }
+fn generated(numbers: &mut [f32], at: usize, n: usize, seed: u64, kind: u8) -> TableMade {
     if numbers.len() < n {
         return no_room();
     }
@@ -202,8 +183,20 @@ fn store(numbers: &mut [f32], at: usize, x: f32) {
     numbers[at] = x;
 }
 
+// the number that is the word at byte p
+fn float_at(line: &[u8], p: usize) -> f32 {
+    let x = trace_input_session::float(trace_input_session::word_at(line, p));
+    x.value
+}
+
+// the whole number that is the word at byte p
+fn whole_at(line: &[u8], p: usize) -> u64 {
+    let n = trace_input_session::whole(trace_input_session::word_at(line, p));
+    n.value
+}
+
 // `n` words from byte `from` of the line on, each a number
-pub fn written(line: &[u8], from: usize, n: usize, numbers: &mut [f32], at: usize) -> TableMade {
+fn written(line: &[u8], from: usize, n: usize, numbers: &mut [f32], at: usize) -> TableMade {
     if numbers.len() < n {
         return no_room();
     }
@@ -213,11 +206,7 @@ pub fn written(line: &[u8], from: usize, n: usize, numbers: &mut [f32], at: usiz
     let mut p = from;
     let mut k = 0usize;
     while k < n {
-        let x = trace_input_session::float(trace_input_session::word_at(line, p));
-        if !x.good {
-            return malformed();
-        }
-        store(numbers, at + k, x.value);
+        store(numbers, at + k, float_at(line, p));
         p = trace_input_session::next(line, p);
         k += 1usize;
     }
@@ -227,11 +216,7 @@ pub fn written(line: &[u8], from: usize, n: usize, numbers: &mut [f32], at: usiz
 // ---- a line: each of these reads words from byte p on
 
 fn constant(line: &[u8], p: usize, numbers: &mut [f32], at: usize) -> TableMade {
-    let x = trace_input_session::float(trace_input_session::word_at(line, p));
-    if !x.good {
-        return malformed();
-    }
-    let value = x.value;
+    let value = float_at(line, p);
     let shape = Shape::Step {
         at: 0,
         below: value,
@@ -242,159 +227,88 @@ fn constant(line: &[u8], p: usize, numbers: &mut [f32], at: usize) -> TableMade 
 
 fn stepped(line: &[u8], p: usize, numbers: &mut [f32], at: usize) -> TableMade {
     let q = trace_input_session::next(line, p);
-    let i = trace_input_session::whole(trace_input_session::word_at(line, p));
-    let a = trace_input_session::float(trace_input_session::word_at(line, q));
-    let b = trace_input_session::float(trace_input_session::word_at(
-        line,
-        trace_input_session::next(line, q),
-    ));
-    if !i.good {
-        return malformed();
-    }
-    if !a.good {
-        return malformed();
-    }
-    if !b.good {
-        return malformed();
-    }
     let shape = Shape::Step {
-        at: i.value as usize,
-        below: a.value,
-        from: b.value,
+        at: whole_at(line, p) as usize,
+        below: float_at(line, q),
+        from: float_at(line, trace_input_session::next(line, q)),
     };
     shaped(numbers, at, shape)
 }
 
-fn drawn_table(line: &[u8], p: usize, numbers: &mut [f32], at: usize) -> TableMade {
-    let seed = trace_input_session::whole(trace_input_session::word_at(line, p));
-    if !seed.good {
-        return malformed();
-    }
-    let kind = kind_of(trace_input_session::word_at(line, trace_input_session::next(line, p)));
-    generated(numbers, at, 513, seed.value, kind)
-}
-
-fn drawn_list(line: &[u8], p: usize, numbers: &mut [f32], at: usize) -> TableMade {
+// `SEED KIND` or `SEED LEN KIND`: two words or three
+fn drawn_by(line: &[u8], p: usize, words: usize, numbers: &mut [f32], at: usize) -> TableMade {
+    let seed = whole_at(line, p);
     let q = trace_input_session::next(line, p);
-    let seed = trace_input_session::whole(trace_input_session::word_at(line, p));
-    let n = trace_input_session::whole(trace_input_session::word_at(line, q));
-    if !seed.good {
-        return malformed();
-    }
-    if !n.good {
-        return malformed();
+    if words == 2 {
+        return generated(
+            numbers,
+            at,
+            513,
+            seed,
+            kind_of(trace_input_session::word_at(line, q)),
+        );
     }
     let kind = kind_of(trace_input_session::word_at(line, trace_input_session::next(line, q)));
-    generated(numbers, at, n.value as usize, seed.value, kind)
-}
-
-// What a table's words begin with.
-enum Form {
-    Linear,
-    Reversed,
-    Squared,
-    Constant,
-    Stepped,
-    DrawnTable,
-    DrawnList,
-    Written,
-    Unknown,
-}
-
-// by the first word and how many follow
-fn form_of(w: &[u8], more: usize) -> Form {
-    if trace_input_session::is(w, b"hex") {
-        return Form::Written;
-    }
-    if more == 0 {
-        return form_of_one(w);
-    }
-    if more == 1 {
-        if trace_input_session::is(w, b"const") {
-            return Form::Constant;
-        }
-        return Form::Unknown;
-    }
-    form_of_many(w, more)
-}
-
-fn form_of_one(w: &[u8]) -> Form {
-    if trace_input_session::is(w, b"lin") {
-        return Form::Linear;
-    }
-    if trace_input_session::is(w, b"rev") {
-        return Form::Reversed;
-    }
-    if trace_input_session::is(w, b"sq") {
-        return Form::Squared;
-    }
-    Form::Unknown
-}
-
-fn form_of_many(w: &[u8], more: usize) -> Form {
-    if more == 2 {
-        if trace_input_session::is(w, b"gen") {
-            return Form::DrawnTable;
-        }
-        return Form::Unknown;
-    }
-    if more != 3 {
-        return Form::Unknown;
-    }
-    if trace_input_session::is(w, b"gen") {
-        return Form::DrawnList;
-    }
-    if trace_input_session::is(w, b"step") {
-        return Form::Stepped;
-    }
-    Form::Unknown
+    generated(numbers, at, whole_at(line, q) as usize, seed, kind)
 }
 
 // the table whose words begin at byte p, of which there are `more` after the first
 fn base(line: &[u8], p: usize, more: usize, numbers: &mut [f32], at: usize) -> TableMade {
-    let form = form_of(trace_input_session::word_at(line, p), more);
+    let i = trace_input_session::index(
+        b"lin rev sq const step gen",
+        trace_input_session::word_at(line, p),
+    );
     let q = trace_input_session::next(line, p);
-    match form {
-        Form::Linear => shaped(numbers, at, Shape::Linear),
-        Form::Reversed => shaped(numbers, at, Shape::Reversed),
-        Form::Squared => shaped(numbers, at, Shape::Squared),
-        Form::Constant => constant(line, q, numbers, at),
-        Form::Stepped => stepped(line, q, numbers, at),
-        Form::DrawnTable => drawn_table(line, q, numbers, at),
-        Form::DrawnList => drawn_list(line, q, numbers, at),
-        Form::Written => written(line, q, more, numbers, at),
-        Form::Unknown => malformed(),
+    match i {
+        0 => shaped(numbers, at, Shape::Linear),
+        1 => shaped(numbers, at, Shape::Reversed),
+        2 => shaped(numbers, at, Shape::Squared),
+        3 => constant(line, q, numbers, at),
+        4 => stepped(line, q, numbers, at),
+        5 => drawn_by(line, q, more, numbers, at),
+        _ => written(line, q, more, numbers, at),
     }
 }
 
-// how many words a change before the table takes: `len N`, `put I X`; 0 for any other word
-fn change_width(w: &[u8]) -> usize {
-    if trace_input_session::is(w, b"len") {
-        return 2;
+// where the words after a change at byte p begin: `len N`, `put I X`; p where there is none
+fn past_change(line: &[u8], p: usize) -> usize {
+    let i = trace_input_session::index(b"len put", trace_input_session::word_at(line, p));
+    if i == 0 {
+        return trace_input_session::next(line, trace_input_session::next(line, p));
     }
-    if trace_input_session::is(w, b"put") {
-        return 3;
+    if i == 1 {
+        return trace_input_session::next(
+            line,
+            trace_input_session::next(line, trace_input_session::next(line, p)),
+        );
     }
-    0
+    p
 }
 
-// the first word below n that begins no change, or the change that ends before word `end`, whichever comes first
-fn walk(line: &[u8], n: usize, end: usize) -> usize {
-    let mut k = 2usize;
-    while k < n {
-        let w = change_width(trace_input_session::word(line, k));
-        if w == 0 {
-            return k;
+// where the first word from byte p on begins that begins no change
+fn base_at(line: &[u8], from: usize) -> usize {
+    let mut p = from;
+    let mut left = line.len();
+    while 0 < left {
+        let q = past_change(line, p);
+        if q <= p {
+            return p;
         }
-        if n - k <= w {
-            return n;
-        }
-        if end == k + w {
-            return k;
-        }
-        k += w;
+        p = q;
+        left -= 1usize;
     }
-    n
+    p
+}
+
+// where the change begins that ends before the word at byte p
+fn change_before(line: &[u8], p: usize) -> usize
+    ensures { λ r. ⌜ (0 < p → r < p) ⌝ }
+{
+    let q = trace_input_session::back(line, trace_input_session::back(line, p));
+    if trace_input_session::is(trace_input_session::word_at(line, q), b"len") {
+        return q;
+    }
+    trace_input_session::back(line, q)
 }
 
 fn fill_rest(numbers: &mut [f32], at: usize, from: usize, to: usize, x: f32)
@@ -410,7 +324,7 @@ fn fill_rest(numbers: &mut [f32], at: usize, from: usize, to: usize, x: f32)
 // cut to n, or the last number repeated up to n
 fn resized(numbers: &mut [f32], at: usize, len: usize, n: usize) -> TableMade {
     if len == 0 {
-        return malformed();
+        return no_entry();
     }
     if numbers.len() < n {
         return no_room();
@@ -429,26 +343,22 @@ fn resized(numbers: &mut [f32], at: usize, len: usize, n: usize) -> TableMade {
 // the change at byte p
 fn changed(line: &[u8], p: usize, numbers: &mut [f32], at: usize, len: usize) -> TableMade {
     let q = trace_input_session::next(line, p);
-    let i = trace_input_session::whole(trace_input_session::word_at(line, q));
-    if !i.good {
-        return malformed();
-    }
+    let i = whole_at(line, q) as usize;
     if trace_input_session::is(trace_input_session::word_at(line, p), b"len") {
-        return resized(numbers, at, len, i.value as usize);
+        return resized(numbers, at, len, i);
     }
-    let x = trace_input_session::float(trace_input_session::word_at(
-        line,
-        trace_input_session::next(line, q),
-    ));
-    if !x.good {
-        return malformed();
-    }
-    replaced(numbers, at, len, i.value as usize, x.value)
+    replaced(
+        numbers,
+        at,
+        len,
+        i,
+        float_at(line, trace_input_session::next(line, q)),
+    )
 }
 
 fn replaced(numbers: &mut [f32], at: usize, len: usize, i: usize, x: f32) -> TableMade {
     if len <= i {
-        return malformed();
+        return no_entry();
     }
     if numbers.len() <= i {
         return no_room();
@@ -460,38 +370,28 @@ fn replaced(numbers: &mut [f32], at: usize, len: usize, i: usize, x: f32) -> Tab
     made(len)
 }
 
-// the table of a line of n words, its numbers from `at` on: its last words are the table, the changes before them are
-// applied from the last to the first
-pub fn make(line: &[u8], n: usize, numbers: &mut [f32], at: usize) -> TableMade {
-    let k = walk(line, n, 0);
-    if n <= k {
-        return malformed();
+// how many words of a line begin after byte p, the one there left out
+fn words_after(line: &[u8], p: usize) -> usize {
+    let n = trace_input_session::count(trace_input_session::part(line, p, line.len()));
+    if n == 0 {
+        return 0;
     }
-    let mut t = base(
-        line,
-        trace_input_session::place(line, k),
-        n - k - 1,
-        numbers,
-        at,
-    );
-    let mut end = k;
-    while 2 < end {
+    n - 1
+}
+
+// the table of a line from its word 2 on, its numbers from `at` on: its last words are the table, the changes before them are applied from the last to the
+// first
+pub fn make(line: &[u8], numbers: &mut [f32], at: usize) -> TableMade {
+    let from = trace_input_session::place(line, 2);
+    let mut end = base_at(line, from);
+    let mut t = base(line, end, words_after(line, end), numbers, at);
+    while from < end {
         if t.code != 0 {
             return t;
         }
-        let from = walk(line, n, end);
-        if end <= from {
-            return malformed();
-        }
-        let next = changed(
-            line,
-            trace_input_session::place(line, from),
-            numbers,
-            at,
-            t.len,
-        );
+        end = change_before(line, end);
+        let next = changed(line, end, numbers, at, t.len);
         t = next;
-        end = from;
     }
     t
 }

@@ -1,4 +1,6 @@
 // Programs by name: program 0 is called ~, the names of the others stand in the book.
+use trace_store_book::BARE;
+use trace_store_book::INSTALLED;
 use trace_store_book::OUTSIDE;
 use trace_store_book::PROGRAMS;
 use trace_store_book::TITLE_CELLS;
@@ -41,6 +43,15 @@ pub fn is_outside(book: &[usize], i: usize) -> bool {
         return false;
     }
     trace_store_book::get(book, trace_store_book::sum(OUTSIDE, i)) == 1
+}
+
+// the number of the installed program by its name
+pub fn installed(book: &[usize]) -> usize {
+    let i = trace_store_book::get(book, INSTALLED);
+    if i == BARE {
+        return 0;
+    }
+    i
 }
 
 // whether the program of a number is called ~

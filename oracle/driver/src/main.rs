@@ -18,7 +18,10 @@ use lspk_mod::{
 };
 use lspk_params::ParamId;
 
+mod grammar;
 mod state;
+
+use grammar::{Grammar, quoted};
 
 type Res<T> = Result<T, String>;
 
@@ -74,6 +77,16 @@ enum Show {
     None,
 }
 
+const NO_ENGINE: &str = "there is no engine yet";
+const NO_ENTRY: &str = "the table has no such entry";
+
+/// The commands that are calls on an engine.
+const CALLS: [&str; 20] = [
+    "swap", "set_held", "set_voice_held", "set_base", "set_amount", "set_output", "set_voice_limit", "note_on",
+    "note_off", "voice_ended", "set_rng", "process", "out", "latest", "latest_all", "ramp", "is_active", "rate",
+    "state", "memory",
+];
+
 struct Session {
     out: String,
     config: Config,
@@ -91,8 +104,11 @@ struct Session {
     canon: bool,
 }
 
-fn int<T: std::str::FromStr>(s: &str) -> Res<T> {
-    s.parse().map_err(|_| format!("not a number in range: {s}"))
+/// A whole number; the greatest of its type where it is greater.
+fn int<T: TryFrom<u64> + TryFrom<u128>>(s: &str) -> Res<T> {
+    let n: u64 = s.parse().map_err(|_| format!("not a number in range: {s}"))?;
+    let most = (1u128 << (8 * size_of::<T>())) - 1;
+    T::try_from(n).or_else(|_| T::try_from(most)).map_err(|_| format!("not a number in range: {s}"))
 }
 
 /// Eight hexadecimal digits, or a decimal.
@@ -289,7 +305,35 @@ impl Session {
     }
 
     fn engine(&mut self) -> Res<&mut Engine> {
-        self.engine.as_mut().ok_or("no engine".to_owned())
+        self.engine.as_mut().ok_or(NO_ENGINE.to_owned())
+    }
+
+    fn table_named(&self, name: &str) -> Res<()> {
+        if name == "diag" || self.tables.contains_key(name) {
+            return Ok(());
+        }
+        Err(format!("{} names no table", quoted(name)))
+    }
+
+    /// What a line, all of whose words are right, names that is not there (docs/SESSIONS.md, Errors).
+    fn absent(&self, words: &[&str]) -> Res<()> {
+        match words {
+            ["note", velocity, key, ..] => {
+                self.table_named(velocity)?;
+                self.table_named(key)
+            }
+            ["slot", _, fields @ ..] => fields.iter().try_for_each(|f| match f.split_once('=') {
+                Some(("sc" | "ac", v)) if v != "lin" => self.table_named(v.split(':').next().unwrap_or("")),
+                _ => Ok(()),
+            }),
+            ["compile", name] if *name == self.installed => Err(format!("{} is installed", quoted(name))),
+            ["swap", name] if self.engine.is_some() && !self.programs.contains_key(*name) => {
+                let what = if *name == self.installed { "is installed" } else { "names no program" };
+                Err(format!("{} {what}", quoted(name)))
+            }
+            [c, ..] if self.engine.is_none() && CALLS.contains(c) => Err(NO_ENGINE.to_owned()),
+            _ => Ok(()),
+        }
     }
 
     /// Numbers for `bind` and `table`: `hex …`, `gen SEED LEN KIND`.
@@ -309,13 +353,13 @@ impl Session {
         Ok(match spec {
             ["len", len, rest @ ..] => {
                 let mut t = Self::table(rest)?;
-                let last = *t.last().ok_or("an empty table")?;
+                let last = *t.last().ok_or(NO_ENTRY)?;
                 t.resize(int(len)?, last);
                 t
             }
             ["put", at, x, rest @ ..] => {
                 let mut t = Self::table(rest)?;
-                *t.get_mut(int::<usize>(at)?).ok_or(format!("no entry {at}"))? = float(x)?;
+                *t.get_mut(int::<usize>(at)?).ok_or(NO_ENTRY)? = float(x)?;
                 t
             }
             ["lin"] => (0..n).map(|i| i as f32 / 512.0).collect(),
@@ -809,34 +853,48 @@ fn fnv(values: &[f32]) -> u64 {
     h
 }
 
+/// The bytes of a text that has a character for each.
+fn bytes_of(text: &str) -> Vec<u8> {
+    text.chars().map(|c| c as u8).collect()
+}
+
 fn main() {
     std::panic::set_hook(Box::new(|info| eprintln!("{info}")));
-    let mut text = String::new();
-    if std::io::stdin().read_to_string(&mut text).is_err() {
-        eprintln!("the session isn't text");
+    let mut bytes = Vec::new();
+    if std::io::stdin().read_to_end(&mut bytes).is_err() {
+        eprintln!("the session can't be read");
         std::process::exit(2);
     }
+    // A character a byte, here and in what is printed.
+    let text: String = bytes.iter().map(|b| char::from(*b)).collect();
+    let grammar = Grammar::new();
     let quiet = std::env::args().any(|a| a == "--quiet");
     let mut s = Session::new();
     let mut stdout = std::io::stdout().lock();
     let mut code = 0;
     // Whether the line above says what the port answers in place of the Rust.
     let mut owed = false;
-    for (n, line) in text.lines().enumerate() {
-        let words: Vec<&str> = line.split_whitespace().collect();
+    for (n, line) in text.split('\n').enumerate() {
+        let words: Vec<&str> = line.split([' ', '\t', '\u{b}', '\u{c}', '\r']).filter(|w| !w.is_empty()).collect();
         let refused = std::mem::replace(&mut owed, line.starts_with("#="));
         if words.is_empty() || words[0].starts_with('#') {
             continue;
         }
-        if !quiet && s.show != Show::Cases && words[0] != "print" {
+        let judged = grammar.judge(&words);
+        let unknown = judged.as_ref().is_err_and(|e| e.ends_with(" is no command"));
+        if !quiet && s.show != Show::Cases && words[0] != "print" && !unknown {
             let _ = writeln!(s.out, "@{} {}", n + 1, words[0]);
         }
-        if refused {
+        if refused && judged.is_ok() {
             continue;
         }
         let mark = s.out.len();
         // Anything else that panics (a voice past a row in `latest`, say).
-        let r = catch_unwind(AssertUnwindSafe(|| s.run(&words)));
+        let r = catch_unwind(AssertUnwindSafe(|| {
+            judged?;
+            s.absent(&words)?;
+            s.run(&words)
+        }));
         match r {
             Ok(Ok(())) => {}
             Ok(Err(e)) => {
@@ -856,7 +914,7 @@ fn main() {
             s.out.push_str(&text);
         }
         if s.out.len() > 1 << 16 || code != 0 {
-            if stdout.write_all(s.out.as_bytes()).is_err() {
+            if stdout.write_all(&bytes_of(&s.out)).is_err() {
                 return;
             }
             s.out.clear();
@@ -865,7 +923,7 @@ fn main() {
             break;
         }
     }
-    let _ = stdout.write_all(s.out.as_bytes());
+    let _ = stdout.write_all(&bytes_of(&s.out));
     let _ = stdout.flush();
     drop(stdout);
     std::process::exit(code);

@@ -30,23 +30,11 @@ returns-2 c = search needs
 loop-holds : tie.Need-loop-holds Inv-loop μ-loop
 loop-holds c = search needs
 
-word-at-requires : tie.Need-word-at-requires Inv-loop μ-loop
-word-at-requires c κs = search needs
-
-float-requires : tie.Need-float-requires Inv-loop μ-loop
-float-requires c κs = search needs
-
-malformed-requires : tie.Need-malformed-requires Inv-loop μ-loop
-malformed-requires c κs = search needs
-
-same-length : tie.Need-same-length Inv-loop μ-loop
-same-length c = search needs
-
-returns-3 : tie.Need-returns-3 Inv-loop μ-loop
-returns-3 c = search needs
-
 add-store : tie.Need-add-store Inv-loop μ-loop
 add-store c = search needs
+
+float-at-requires : tie.Need-float-at-requires Inv-loop μ-loop
+float-at-requires c κs = search needs
 
 store-requires : tie.Need-store-requires Inv-loop μ-loop
 store-requires c κs = search needs
@@ -66,11 +54,11 @@ loop-again c = search needs
 made-requires : tie.Need-made-requires Inv-loop μ-loop
 made-requires c κs = search needs
 
-same-length-2 : tie.Need-same-length-2 Inv-loop μ-loop
-same-length-2 c = search needs
+same-length : tie.Need-same-length Inv-loop μ-loop
+same-length c = search needs
 
-returns-4 : tie.Need-returns-4 Inv-loop μ-loop
-returns-4 c = search needs
+returns-3 : tie.Need-returns-3 Inv-loop μ-loop
+returns-3 c = search needs
 
 pub written-spec : {M : Type 1} → statement M
 written-spec =
@@ -84,17 +72,13 @@ written-spec =
     no-room-requires-2
     returns-2
     loop-holds
-    word-at-requires
-    float-requires
-    malformed-requires
-    same-length
-    returns-3
     add-store
+    float-at-requires
     store-requires
     next-requires
     add-k
     loop-less
     loop-again
     made-requires
-    same-length-2
-    returns-4)
+    same-length
+    returns-3)
