@@ -150,38 +150,19 @@ fn routes(
 
 // ---- gains
 
-fn amounts(slot: [Slot; SLOTS]) -> [f32; SLOTS]
-    ensures { λ r. ⌜ r ≡ map (λ (s : Slot). s .amount) slot ⌝ }
-{
-    let mut out = [0.0; SLOTS];
-    let mut n = 0;
-    while n < SLOTS {
-        let s = slot[n];
-        out[n] = s.amount;
-        n += 1;
-    }
-    out
-}
-
-fn outputs(slot: [Slot; SLOTS]) -> [f32; SLOTS]
-    ensures { λ r. ⌜ r ≡ map (λ (s : Slot). s .output) slot ⌝ }
-{
-    let mut out = [0.0; SLOTS];
-    let mut n = 0;
-    while n < SLOTS {
-        let s = slot[n];
-        out[n] = s.output;
-        n += 1;
-    }
-    out
-}
-
 // every slot's amount and output
 fn gains(slot: [Slot; SLOTS]) -> Gains
     ensures { λ r. ⌜ r ≡ gainsOf slot ⌝ }
 {
-    let amount = amounts(slot);
-    let output = outputs(slot);
+    let mut amount = [0.0; SLOTS];
+    let mut output = [0.0; SLOTS];
+    let mut n = 0;
+    while n < SLOTS {
+        let s = slot[n];
+        amount[n] = s.amount;
+        output[n] = s.output;
+        n += 1;
+    }
     Gains { amount, output }
 }
 

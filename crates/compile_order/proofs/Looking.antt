@@ -1,6 +1,6 @@
 -- Turns of the loop of `is_read`, and the mark of a pair of places. Assumes nothing.
-use mathlib.Core.Path.{_≡_, refl, ap, _∙_}
-use mathlib.Core.Bool.{Bool, true, false, _&&_, _||_}
+use mathlib.Core.Path.{_≡_, ap, _∙_}
+use mathlib.Core.Bool.{true, false, _&&_, _||_, and-false}
 use mathlib.Core.List.{List}
 use Prim.Native.Nat.{ℕ, _+_, _/_, _%_, _≤_, _<_, min}
 use lib.Dec.{eqb, ltb}
@@ -50,10 +50,6 @@ module _ (rs : List Reader) (control : Numbers) (long : length (control .at) ≡
   pub mark-no-lane : min (control .count) slots ≤ p % slots → markAt rs (numbersIn control) p ≡ false
   unfolding markAt
   mark-no-lane h = rw (le-ltb (p % slots) (length (numbersIn control)) (rw many h)) (and-false (ltb (p / slots) (length (numbersIn control))))
-    where
-      and-false : (t : Bool) → t && false ≡ false
-      and-false true = refl
-      and-false false = refl
 
   pub mark-of : p / slots < min (control .count) slots → p % slots < min (control .count) slots
       → markAt rs (numbersIn control) p ≡ feedsOther rs (getD (control .at) (p / slots) 0) (getD (control .at) (p % slots) 0)

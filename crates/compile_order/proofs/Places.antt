@@ -2,9 +2,9 @@
 -- and by its place. Assumes nothing.
 use mathlib.Core.Path.{_≡_, refl, sym, ap, _∙_}
 use mathlib.Core.Logic.{_⊎_, inl, inr}
-use mathlib.Core.Bool.{Bool, true, false, not, _&&_}
+use mathlib.Core.Bool.{Bool, true, false, not, _&&_, and-false}
 use mathlib.Core.List.{List, [], _∷_, map}
-use Prim.Native.Nat.{ℕ, zero, suc, _+_, _≤_, _<_}
+use Prim.Native.Nat.{ℕ, zero, suc, _≤_, _<_}
 use native.Mathlib.Omega.{arith}
 use native.Mathlib.Decide.{ℕ-discrete}
 use lib.Dec.{eqb}
@@ -13,7 +13,8 @@ use borrow.Author.Tests.{eq-eqb, ne-eqb}
 use Rattle.feed.specs.Numbers.{In, remove, keep, firstOr, upFrom}
 use Rattle.feed.specs.Order.{fedBy, free, next, greedy, order}
 use Rattle.feed.proofs.Tests.{which}
-use Rattle.feed.proofs.Count.{hit-same, remove-in, length-remove, upFrom-bound}
+use Rattle.feed.proofs.Renamed.{at-places, below}
+use Rattle.feed.proofs.Count.{hit-same, remove-in, length-remove}
 use Rattle.feed.proofs.Next.{next-in, free-from}
 
 -- by the names that f gives the things of the list, `feeds′` says of two things with other names what `feeds` says of two others
@@ -94,26 +95,12 @@ module _ (f : ℕ → ℕ) where
     unfolding order
     order-told left tells = rw (length-map left f) (greedy-told (length left) left refl tells)
 
--- a list is what stands at its places
-at-places : (l all : List ℕ) (k : ℕ) → ((i : ℕ) → getD l i 0 ≡ getD all (k + i) 0) → map (λ i. getD all i 0) (upFrom k (length l)) ≡ l
-at-places [] all k h = refl
-at-places (x ∷ l) all k h =
-    let here : getD all k 0 ≡ x = ap (λ (j : ℕ). getD all j 0) (omega arith) ∙ sym (h 0) in
-    rw (here, at-places l all (suc k) (λ i. h (suc i) ∙ ap (λ (j : ℕ). getD all j 0) (omega arith)))
-
 -- THE ORDER of numbered things, by marks that say of places whether what stands there feeds another
 module _ (feeds : ℕ → ℕ → Bool) (left : List ℕ) (by-place : ℕ → ℕ → Bool)
     (same : (i j : ℕ) → i < length left → j < length left → by-place i j ≡ not (eqb (getD left i 0) (getD left j 0)) && feeds (getD left i 0) (getD left j 0)) where
-  below : (i : ℕ) → In i (upFrom 0 (length left)) → i < length left
-  below i m = omega (arith, upFrom-bound i 0 (length left) m)
-
   tells : Tells (λ i. getD left i 0) by-place feeds (upFrom 0 (length left))
-  tells a b ma mb = go (ℕ-discrete (getD left a 0) (getD left b 0)) (same a b (below a ma) (below b mb))
+  tells a b ma mb = go (ℕ-discrete (getD left a 0) (getD left b 0)) (same a b (below left a ma) (below left b mb))
     where
-      and-false : (t : Bool) → t && false ≡ false
-      and-false true = refl
-      and-false false = refl
-
       go : Dec (getD left a 0 ≡ getD left b 0) → by-place a b ≡ not (eqb (getD left a 0) (getD left b 0)) && feeds (getD left a 0) (getD left b 0)
           → feeds (getD left a 0) (getD left b 0) && not (eqb (getD left a 0) (getD left b 0)) ≡ by-place a b && not (eqb a b)
       go (yes e) s = rw (s, eq-eqb (getD left a 0) (getD left b 0) e) (and-false (feeds (getD left a 0) (getD left b 0)))

@@ -1,6 +1,6 @@
 -- Laws of tables that proofs cite in place of the definitions' text.
 use mathlib.Core.Path.{_≡_, refl, ap, _∙_}
-use mathlib.Core.Bool.{Bool, true, false, _&&_}
+use mathlib.Core.Bool.{true, false, _&&_}
 use mathlib.Core.List.{List, [], _∷_, List·Memᴰ·head, List·Memᴰ·tail}
 use Prim.Native.Nat.{ℕ, zero, suc, _+_, _≤_, _<_}
 use native.Mathlib.Numerals.{add-one}
@@ -9,10 +9,10 @@ use lib.ListN.{length, getD, drop}
 use lib.Seq.{drop-cons, drop-length}
 use lib.Ieee.{Float, nan, inf, fin, lt, add, sub, mul, ofInt, toUnsigned}
 use borrow.Author.Tests.{not-false, eqb-true}
+use Rattle.list.proofs.Bools.{and-true-l, and-true-r}
 use Rattle.refusal.proofs.Laws.{judged-accepted}
 use Rattle.number.specs.Number.{zero32, one32, plus, times, clampTo, finite}
 use Rattle.number.proofs.Laws.{plus-nan, times-nan}
-use Rattle.number.proofs.Laws.{no}
 use Rattle.curve_table.specs.Table.{lastCell, position, cellAt, cellOf, partOf, lookupOf, allowed, allAllowed, tableRows, tableCode, fromIndex, tabulated, points}
 
 -- ---- the lookup
@@ -64,14 +64,6 @@ lookup-reads-two t v x a b = rw (a, b)
 
 -- ---- what a table may hold
 
-both-left : (a b : Bool) → (a && b) ≡ true → a ≡ true
-both-left true b h = refl
-both-left false b h = h
-
-both-right : (a b : Bool) → (a && b) ≡ true → b ≡ true
-both-right true b h = h
-both-right false b h = absurd (no h)
-
 -- the numbers from i on, by the number at i and those after it
 pub allowed-from : (t : List Float) (i : ℕ) → i < length t → allAllowed (drop i t) ≡ (allowed (getD t i nan) && allAllowed (drop (i + 1) t))
 unfolding allAllowed
@@ -84,14 +76,14 @@ allowed-past t i h = rw (h, drop-length)
 -- each number that is allowed is finite
 pub allowed-finite : (x : Float) → allowed x ≡ true → finite x ≡ true
 unfolding allowed
-allowed-finite x h = both-left _ _ h
+allowed-finite x h = and-true-l _ _ h
 
 -- where all are allowed, each is
 pub allowed-at : (t : List Float) (i : ℕ) → i < length t → allAllowed t ≡ true → allowed (getD t i nan) ≡ true
 unfolding allAllowed
 allowed-at [] i h a = absurd (omega arith)
-allowed-at (x ∷ t) zero h a = both-left _ _ a
-allowed-at (x ∷ t) (suc i) h a = allowed-at t i (omega arith) (both-right (allowed x) (allAllowed t) a)
+allowed-at (x ∷ t) zero h a = and-true-l _ _ a
+allowed-at (x ∷ t) (suc i) h a = allowed-at t i (omega arith) (and-true-r (allowed x) (allAllowed t) a)
 
 -- a table that is accepted has 513 numbers, each of them allowed
 pub accepted-length : (t : List Float) → tableCode t ≡ 0 → length t ≡ points

@@ -1,9 +1,10 @@
 -- A fraction a / b with as many digits before the point as a format keeps, times a power of two: its nearest whole number is the rounded value's significand, and
 -- with the exponent's field in front of it these are the value's bits (`by-bits`). And a sign goes through the rounding (`signed-round`). Assumes nothing.
+-- One derivation, whose steps nothing else cites: one file, long as it is.
 use mathlib.Core.Path.{_≡_, refl, sym, ap, _∙_, subst}
 use mathlib.Core.Bool.{Bool, true, false, cond, not, true≢false}
 use mathlib.Core.Logic.{inl, inr}
-use Prim.Native.Nat.{ℕ, zero, suc, _+_, _-_, _*_, _/_, _%_, _^_, _≤_, _<_, compare, Ordering·lt, Ordering·eq, Ordering·gt, compare·zero-zero, compare·zero-suc, compare·suc-zero, compare·suc-suc}
+use Prim.Native.Nat.{ℕ, zero, suc, _+_, _-_, _*_, _/_, _%_, _^_, _≤_, _<_, compare, Ordering·eq, compare·zero-zero, compare·suc-suc}
 use native.Mathlib.Nat.{le-trans, le-of-eq, lt-of-lt-of-le, lt-of-le-of-lt, lt-of-not-le, not-le-of-lt, eq-or-lt-of-le, mul-one, one-mul, mul-comm, mul-assoc, mul-left-comm, mul-right-comm, mul-mul-mul-comm, mul-pos, mul-le-mul-right, mul-lt-mul-of-pos-right, mul-div-cancel, le-div-iff-mul-le, div-lt-iff-lt-mul, zero-add, suc-add, pow-zero, pow-suc, mul-add, one-le-pow, pow-le-pow-right}
 use native.Mathlib.Numerals.{add-one}
 use native.Mathlib.Omega.{arith}
@@ -17,6 +18,7 @@ use lib.Ieee.Scale.{round-same}
 use lib.Ieee.Nearest.{closest, closest-same, nearest-ge, div-same}
 use lib.Ieee.Bits.{ofBits-toBits, nanBits-above}
 use borrow.Author.Tests.{le-ltb}
+use Rattle.number.proofs.Nearest.{compare-lt, compare-gt}
 
 -- ---- the sign
 neg-odd : (d q k l : ℕ) → neg (odd d false q k l) ≡ odd d true q k l
@@ -46,17 +48,6 @@ size-is n j l h =
     omega (arith, size-le n (suc j) h)
 
 -- ---- the nearest whole number by how twice the remainder compares with the divisor
-compare-lt : (a b : ℕ) → a < b → compare a b ≡ Ordering·lt
-compare-lt zero zero h = absurd (omega arith)
-compare-lt zero (suc b) h = compare·zero-suc b
-compare-lt (suc a) zero h = absurd (omega arith)
-compare-lt (suc a) (suc b) h = compare·suc-suc a b ∙ compare-lt a b (omega arith)
-
-compare-gt : (a b : ℕ) → b < a → compare a b ≡ Ordering·gt
-compare-gt zero b h = absurd (omega arith)
-compare-gt (suc a) zero h = compare·suc-zero a
-compare-gt (suc a) (suc b) h = compare·suc-suc a b ∙ compare-gt a b (omega arith)
-
 compare-same : (a : ℕ) → compare a a ≡ Ordering·eq
 compare-same zero = compare·zero-zero
 compare-same (suc a) = compare·suc-suc a a ∙ compare-same a

@@ -10,6 +10,7 @@ use lib.Dec.{leb, ltb, eqb}
 use lib.ListN.{length, getD, take, drop, length-drop}
 use lib.Seq.{drop-cons, drop-length, take-all}
 use borrow.Author.Tests.{leb-true, lt-ltb, ne-eqb, not-true, not-false}
+use Rattle.list.proofs.Bools.{and-true-l}
 use Rattle.decimal.specs.Decimal.{lead, isDigit, run, past, number, isSign, unsigned, rest, hasPoint, afterPoint, mark, power, digits, exponent, isPower, isDecimal}
 
 pub run-from : (w : List ℕ) (i : ℕ) → i < length w → run (drop i w) ≡ cond (isDigit (getD w i 0)) (suc (run (drop (i + 1) w))) 0
@@ -43,11 +44,7 @@ number-other w v i h d = number-from w v i h ∙ ap (λ (b : Bool). cond b (numb
 -- a digit is 48 at least
 pub digit-low : (b : ℕ) → isDigit b ≡ true → 48 ≤ b
 unfolding isDigit
-digit-low b h = leb-true 48 b (first (leb 48 b) (ltb b 58) h)
-  where
-    first : (p q : Bool) → (p && q) ≡ true → p ≡ true
-    first true q e = refl
-    first false q e = e
+digit-low b h = leb-true 48 b (and-true-l (leb 48 b) (ltb b 58) h)
 
 -- a number held to a bound before its last digits as well as after them
 step : (v d most : ℕ) → min (min v most * 10 + d) most ≡ min (v * 10 + d) most

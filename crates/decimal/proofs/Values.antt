@@ -2,8 +2,8 @@
 use mathlib.Core.Path.{_≡_, refl, sym, ap, _∙_}
 use mathlib.Core.Bool.{Bool, true, false, cond, not, _&&_}
 use mathlib.Core.List.{List}
-use mathlib.Core.Logic.{_⊎_, inl, inr}
-use Prim.Native.Nat.{ℕ, zero, suc, _+_, _-_, _*_, _^_, _≤_, _<_, min}
+use mathlib.Core.Logic.{inl, inr}
+use Prim.Native.Nat.{ℕ, _+_, _-_, _*_, _^_, _≤_, _<_, min}
 use native.Mathlib.Nat.{mul-le-mul-left, mul-assoc, pow-suc, pow-le-pow-right}
 use native.Mathlib.Numerals.{add-one}
 use native.Mathlib.Omega.{arith}
@@ -11,6 +11,7 @@ use lib.Dec.{ltb, lit<}
 use lib.IntN.{pos}
 use lib.Ieee.{fin, binary32, neg, ofBits}
 use borrow.Author.Tests.{lt-ltb, le-ltb, lt-leb, ltb-true, not-false}
+use Rattle.number.proofs.Nearest.{sides}
 use Rattle.decimal.specs.Decimal.{run, isMinus, afterPoint, power, digits, exponent, isDecimal, beyond, over, scaled, valued, decimalOf}
 
 -- ten times more at each step
@@ -37,12 +38,6 @@ far s m f e h = rw (lt-leb f 0 (omega arith), lt-leb (f + e) 0 (omega arith), lt
 -- the bounds on digits and exponent pass every number that is not within them for one that is not
 held : (m l : ℕ) → (ltb (min m l) l ≡ ltb m l)
 held m l = elim (sides m l) [ inl h ↦ lt-ltb (min m l) l (omega arith) ∙ sym (lt-ltb m l h) | inr h ↦ le-ltb (min m l) l (omega arith) ∙ sym (le-ltb m l h) ]
-  where
-    sides : (a b : ℕ) → (a < b) ⊎ (b ≤ a)
-    sides zero zero = inr (omega arith)
-    sides zero (suc b) = inl (omega arith)
-    sides (suc a) zero = inr (omega arith)
-    sides (suc a) (suc b) = elim (sides a b) [ inl l ↦ inl (omega arith) | inr g ↦ inr (omega arith) ]
 
 below : (m l : ℕ) → ltb m l ≡ true → min m l ≡ m
 below m l h = omega (arith, ltb-true m l h)

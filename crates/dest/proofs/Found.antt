@@ -1,8 +1,8 @@
 -- What is found: the first entry that has the target and no other; and, once an entry is accepted, that entry, with all before it as they were.
 -- Assumes nothing.
 use mathlib.Core.Path.{_≡_, refl, sym, ap, _∙_}
-use mathlib.Core.Logic.{_⊎_, inl, inr, ⊎-elim}
-use mathlib.Core.Bool.{Bool, true, false, cond, _&&_}
+use mathlib.Core.Logic.{_⊎_, ⊎-elim}
+use mathlib.Core.Bool.{Bool, true, false, cond}
 use mathlib.Core.List.{List, [], _∷_, _++_}
 use Prim.Native.Nat.{ℕ, zero, suc, _+_, _<_}
 use native.Mathlib.Nat.{le-of-suc-le-suc, not-suc-le-zero}
@@ -22,6 +22,7 @@ use Rattle.dest.specs.declared.DestFound.the-variants as D
 use Rattle.state.specs.Registry.{destCount, sameTarget}
 use Rattle.dest.specs.Entries.{registered, getDest, findFrom, findTarget, findDest, isFound}
 use Rattle.dest.specs.Adding.{addCode, appended}
+use Rattle.list.proofs.Bools.{which, and-true-l, and-true-r}
 use Rattle.dest.proofs.Search.{registered-length, entry-at}
 use Rattle.dest.proofs.Added.{accepted, appended-registered}
 
@@ -31,17 +32,12 @@ pub same-self : (t : Target) → sameTarget t t ≡ true
 same-self (Param a) = eq-eqb a a refl
 same-self (LfoBus l b) = rw (eq-eqb l l refl, eq-eqb b b refl)
 
-both : (p q : Bool) → (p && q) ≡ true → (p ≡ true) × (q ≡ true)
-both true q h = (refl, h)
-both false q h = let z : _≡_ {A = ℕ} 0 1 = cc in absurd (omega arith)
-
 pub same-equal : (s t : Target) → sameTarget s t ≡ true → s ≡ t
 same-equal (Param a) (Param b) h = ap Param (eqb-true a b h)
 same-equal (Param a) (LfoBus m c) h = let z : _≡_ {A = ℕ} 0 1 = cc in absurd (omega arith)
 same-equal (LfoBus l b) (Param a) h = let z : _≡_ {A = ℕ} 0 1 = cc in absurd (omega arith)
 same-equal (LfoBus l b) (LfoBus m c) h =
-    let e = both (eqb l m) (eqb b c) h in
-    rw (eqb-true l m (e .0), eqb-true b c (e .1))
+    rw (eqb-true l m (and-true-l _ (eqb b c) h), eqb-true b c (and-true-r (eqb l m) _ h))
 
 -- ---- the first, and no other
 
@@ -50,10 +46,6 @@ pub record FirstAt (t : Target) (l : List Dest) (d : Dest) (i : ℕ) : Type 0 wh
   pub below : i < length l
   pub here : sameTarget (getD l i d .target) t ≡ true
   pub before : (k : ℕ) → k < i → sameTarget (getD l k d .target) t ≡ false
-
-either : (b : Bool) → (b ≡ true) ⊎ (b ≡ false)
-either true = inl refl
-either false = inr refl
 
 -- none of the first entries has the target, and no entry before them
 without-cons : (t : Target) (l : List Dest) (d : Dest) (n : ℕ) (x : Dest) → sameTarget (x .target) t ≡ false → ((k : ℕ) → k < n → sameTarget (getD l k d .target) t ≡ false) → (k : ℕ) → k < suc n → sameTarget (getD (x ∷ l) k d .target) t ≡ false
@@ -73,7 +65,7 @@ found-from t (x ∷ l) d n m e =
     let q : findFrom (suc n) t l ≡ D.At m = rw y at e in
     let r = found-from t l d (suc n) m q in
     (suc (r .0), omega (arith, r .1), record { below = omega (arith, r .2 .below); here = r .2 .here; before = without-cons t l d (r .0) x y (r .2 .before) }))
-    (either (sameTarget (x .target) t))
+    (which (sameTarget (x .target) t))
 
 pub found-first : (t : Target) (l : List Dest) (d : Dest) (n : ℕ) → findTarget t l ≡ D.At n → FirstAt t l d n
 unfolding findTarget
@@ -91,7 +83,7 @@ none-from t (x ∷ l) d n e k h =
     (λ y.
     let q : isFound (findFrom (suc n) t l) ≡ false = rw y at e in
     without-cons t l d (length l) x y (none-from t l d (suc n) q) k h)
-    (either (sameTarget (x .target) t))
+    (which (sameTarget (x .target) t))
 
 pub found-none : (t : Target) (l : List Dest) (d : Dest) → findTarget t l ≡ D.Nothing → (k : ℕ) → k < length l → sameTarget (getD l k d .target) t ≡ false
 unfolding findTarget

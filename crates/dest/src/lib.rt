@@ -265,11 +265,11 @@ impl DestInfo {
         DestInfo::param(id).feeds(Feed::Output(slot))
     }
 
-    fn with_scope(self, scope: Scope) -> DestInfo
-        ensures { λ r. ⌜ r ≡ withScope scope self ⌝ }
+    // with another scope and another rate
+    fn at(self, scope: Scope, rate: Rate) -> DestInfo
+        ensures { λ r. ⌜ r ≡ withScope scope (withRate rate self) ⌝ }
     {
         let target = self.target;
-        let rate = self.rate;
         let feed = self.feed;
         DestInfo {
             target,
@@ -281,20 +281,18 @@ impl DestInfo {
         }
     }
 
+    fn with_scope(self, scope: Scope) -> DestInfo
+        ensures { λ r. ⌜ r ≡ withScope scope self ⌝ }
+    {
+        let rate = self.rate;
+        self.at(scope, rate)
+    }
+
     fn with_rate(self, rate: Rate) -> DestInfo
         ensures { λ r. ⌜ r ≡ withRate rate self ⌝ }
     {
-        let target = self.target;
         let scope = self.scope;
-        let feed = self.feed;
-        DestInfo {
-            target,
-            scope,
-            rate,
-            min: self.min,
-            max: self.max,
-            feed,
-        }
+        self.at(scope, rate)
     }
 
     // per voice

@@ -86,22 +86,23 @@ order-same feeds feeds′ left same =
     ap (λ (l : List ℕ). order feeds′ l) (sym (map-id left)) ∙ order-renamed (λ x. x) feeds feeds′ left (λ a b ma mb e. e) same ∙ map-id (order feeds left)
 
 -- a list is what stands at its places
-at-places : (l all : List ℕ) (k : ℕ) → ((i : ℕ) → getD l i 0 ≡ getD all (k + i) 0) → map (λ i. getD all i 0) (upFrom k (length l)) ≡ l
+pub at-places : (l all : List ℕ) (k : ℕ) → ((i : ℕ) → getD l i 0 ≡ getD all (k + i) 0) → map (λ i. getD all i 0) (upFrom k (length l)) ≡ l
 at-places [] all k h = refl
 at-places (x ∷ l) all k h =
     let here : getD all k 0 ≡ x = ap (λ (j : ℕ). getD all j 0) (omega arith) ∙ sym (h 0) in
     rw (here, at-places l all (suc k) (λ i. h (suc i) ∙ ap (λ (j : ℕ). getD all j 0) (omega arith)))
 
+-- a place in a list is below its length
+pub below : (l : List ℕ) (i : ℕ) → In i (upFrom 0 (length l)) → i < length l
+below l i m = omega (arith, upFrom-bound i 0 (length l) m)
+
 -- THE ORDER OF NUMBERED THINGS is that of their places, each place standing for what stands there
 module _ (feeds : ℕ → ℕ → Bool) (left : List ℕ) (once : Distinct left) (by-place : ℕ → ℕ → Bool)
     (same : (i j : ℕ) → i < length left → j < length left → by-place i j ≡ feeds (getD left i 0) (getD left j 0)) where
-  below : (i : ℕ) → In i (upFrom 0 (length left)) → i < length left
-  below i m = omega (arith, upFrom-bound i 0 (length left) m)
-
   apart : Apart (λ i. getD left i 0) (upFrom 0 (length left))
-  apart a b ma mb e = sym (index-at left once a (below a ma)) ∙ ap (λ (x : ℕ). indexOf x left) e ∙ index-at left once b (below b mb)
+  apart a b ma mb e = sym (index-at left once a (below left a ma)) ∙ ap (λ (x : ℕ). indexOf x left) e ∙ index-at left once b (below left b mb)
 
   pub order-places : order feeds left ≡ map (λ i. getD left i 0) (order by-place (upFrom 0 (length left)))
   order-places =
       ap (λ (l : List ℕ). order feeds l) (sym (at-places left left 0 (λ i. ap (λ (j : ℕ). getD left j 0) (omega arith))))
-      ∙ order-renamed (λ i. getD left i 0) by-place feeds (upFrom 0 (length left)) apart (λ a b ma mb. sym (same a b (below a ma) (below b mb)))
+      ∙ order-renamed (λ i. getD left i 0) by-place feeds (upFrom 0 (length left)) apart (λ a b ma mb. sym (same a b (below left a ma) (below left b mb)))

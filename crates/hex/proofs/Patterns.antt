@@ -1,6 +1,6 @@
 -- Which bit patterns are a NaN's, and which numbers have none of their own.
 use mathlib.Core.Path.{_≡_, refl, sym, _∙_, ap, subst}
-use mathlib.Core.Bool.{Bool, true, false, not}
+use mathlib.Core.Bool.{Bool, true, false, not, false≢true}
 use Prim.Native.Nat.{ℕ, _%_, _<_, _≤_}
 use lib.Dec.{T}
 use lib.Ieee.{Float, nan, inf, fin, binary32, ofBits, toBits, isNan, nanBits, div, ne}
@@ -8,14 +8,11 @@ use lib.Ieee.Bits.{nanBits-is, nanBits-above}
 use lib.Ieee.Compare.{differs-from-itself, nan-differs}
 use borrow.Author.Tests.{lt-ltb, le-ltb}
 
-no : false ≡ true → ⊥
-no h = subst T (sym h) tt
-
 is-nan : (x : Float) → isNan x ≡ true → nan ≡ x
 unfolding isNan
 is-nan nan h = refl
-is-nan (inf s) h = absurd (no h)
-is-nan (fin s m e) h = absurd (no h)
+is-nan (inf s) h = absurd (false≢true h)
+is-nan (fin s m e) h = absurd (false≢true h)
 
 pub zero-over-zero : div binary32 (ofBits binary32 0) (ofBits binary32 0) ≡ nan
 unfolding div ofBits
@@ -34,6 +31,6 @@ pattern-of-nan x h = ap (toBits binary32) (sym (differs-from-itself x (subst T (
 
 pub no-nan : (x : Float) → ne x x ≡ false → T (not (isNan x))
 unfolding isNan
-no-nan nan h = absurd (no (sym h ∙ nan-differs))
+no-nan nan h = absurd (false≢true (sym h ∙ nan-differs))
 no-nan (inf s) h = tt
 no-nan (fin s m e) h = tt

@@ -1,3 +1,4 @@
+pub mod Bools
 pub mod Elements
 pub mod Filled
 pub mod Parts

@@ -1,4 +1,5 @@
 -- What stands where in a part of a list, and in a list of which a part was replaced. Assumes nothing.
+-- The laws of parts are cited together: one file, long as it is.
 use mathlib.Core.Path.{_≡_, sym, ap, _∙_}
 use mathlib.Core.Logic.{_⊎_, inl, inr, ⊎-elim}
 use mathlib.Core.List.{List, _++_}

@@ -1,5 +1,6 @@
 -- A whole number of 64 digits as the nearest float. Its parts of 24 digits are floats exactly, so their sum rounds once; and where 25 digits or more are dropped,
 -- the rounding sees of the last ones only whether they are all 0 (`round-sticky`).
+-- One derivation, whose steps are cited nearly nowhere else: one file, long as it is.
 use mathlib.Core.Path.{_≡_, refl, sym, ap, _∙_, subst}
 use mathlib.Core.Bool.{Bool, true, false, true≢false}
 use mathlib.Core.Logic.{_⊎_, inl, inr}
@@ -14,8 +15,8 @@ use lib.Ieee.Digits.{size-lt, size-le, size-reaches}
 use lib.Ieee.Fits.{down-pos, round-is}
 use lib.Ieee.Exact.{HasValue, round-exact}
 use lib.Ieee.Scale.{round-same}
-use lib.Ieee.Back.{round-whole}
 use lib.Ieee.Nearest.{closest}
+use Rattle.number.proofs.Exact.{whole-exact}
 use borrow.Author.Tests.{ne-eqb}
 use Rattle.number.specs.Number.{sticky}
 
@@ -51,33 +52,30 @@ scale-at f (fin true m e) a k h = absurd (true≢false (h .0))
 scale-at f (fin false m e) a k h =
     round-same f false (m * up e * (1 * 2 ^ k)) (down e * 1) (a * 2 ^ k) 1 (mul-pos (down-pos e) (zero-lt-suc 0)) (zero-lt-suc 0) (whole-scaled (m * up e) (down e) a (2 ^ k) (h .1))
 
--- ---- a part of 24 digits, and a multiple of it by a power of two
-pub part : (a : ℕ) → a < 2 ^ 24 → HasValue (ofInt binary32 (pos a)) false a 1
-unfolding ofInt
-part a h = round-whole binary32 false a (le-of-lt h)
+-- ---- a part of 24 digits, times a power of two
 
 room : (k : ℕ) → k ≤ 104 → 24 + (k + 149) ≤ 149 + 128
 room k h = omega arith
 
 pub scaled : (a k : ℕ) → a < 2 ^ 24 → k ≤ 104 → HasValue (mul binary32 (ofInt binary32 (pos a)) (fin false 1 (pos k))) false (a * 2 ^ k) 1
 scaled a k h g =
-    subst (λ (z : Float). HasValue z false (a * 2 ^ k) 1) (sym (scale-at binary32 (ofInt binary32 (pos a)) a k (part a h)))
+    subst (λ (z : Float). HasValue z false (a * 2 ^ k) 1) (sym (scale-at binary32 (ofInt binary32 (pos a)) a k (whole-exact a (le-of-lt h))))
     (round-exact binary32 false (a * 2 ^ k) 1 a (k + 149) (zero-lt-suc 0) h (lt-of-lt-of-le (shl-lt 24 (k + 149) h) (pow-mono (room k g)))
     (mul-assoc a (2 ^ k) (2 ^ 149) ∙ ap (λ (z : ℕ). a * z) (sym (pow-add 2 k 149)) ∙ sym (mul-one (a * 2 ^ (k + 149)))))
 
 -- ---- what `compare` answers
-compare-lt : (a b : ℕ) → a < b → compare a b ≡ Ordering·lt
+pub compare-lt : (a b : ℕ) → a < b → compare a b ≡ Ordering·lt
 compare-lt zero zero h = absurd (omega arith)
 compare-lt zero (suc b) h = compare·zero-suc b
 compare-lt (suc a) zero h = absurd (omega arith)
 compare-lt (suc a) (suc b) h = compare·suc-suc a b ∙ compare-lt a b (omega arith)
 
-compare-gt : (a b : ℕ) → b < a → compare a b ≡ Ordering·gt
+pub compare-gt : (a b : ℕ) → b < a → compare a b ≡ Ordering·gt
 compare-gt zero b h = absurd (omega arith)
 compare-gt (suc a) zero h = compare·suc-zero a
 compare-gt (suc a) (suc b) h = compare·suc-suc a b ∙ compare-gt a b (omega arith)
 
-sides : (a b : ℕ) → (a < b) ⊎ (b ≤ a)
+pub sides : (a b : ℕ) → (a < b) ⊎ (b ≤ a)
 sides zero zero = inr (omega arith)
 sides zero (suc b) = inl (omega arith)
 sides (suc a) zero = inr (omega arith)
@@ -201,7 +199,7 @@ lower-in n = le→leb _ (2 ^ 24) (le-of-lt (lower-small n))
 pub two-parts : (n : ℕ) → n < 2 ^ 48
     → add binary32 (mul binary32 (ofInt binary32 (pos (n / 16777216))) (fin false 1 (pos 24))) (ofInt binary32 (pos (n % 16777216))) ≡ ofInt binary32 (pos n)
 two-parts n h =
-    add-at binary32 _ _ (n / 16777216 * 2 ^ 24) (n % 16777216) (scaled (n / 16777216) 24 (upper-small n h) (lit≤ tt)) (part (n % 16777216) (lower-small n))
+    add-at binary32 _ _ (n / 16777216 * 2 ^ 24) (n % 16777216) (scaled (n / 16777216) 24 (upper-small n h) (lit≤ tt)) (whole-exact (n % 16777216) (le-of-lt (lower-small n)))
     ∙ ap (λ (z : ℕ). round binary32 false z 1) (omega arith)
     ∙ sym (ofInt-is n)
 

@@ -1,5 +1,6 @@
 -- The operations respect document 01's comparison: of numbers that are the same they give numbers that are the same.
 -- Division does not: 1 over the two zeros is the two infinities.
+-- One law for each operation: one file, long as it is.
 use mathlib.Core.Path.{_≡_, refl, sym, _∙_}
 use mathlib.Core.Bool.{Bool, true, false, cond, _||_}
 use Prim.Native.Nat.{ℕ, zero, suc, _*_, _<_}

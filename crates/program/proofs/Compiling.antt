@@ -12,6 +12,7 @@ use lib.Ieee.{Float}
 use Rattle.config.specs.Sizes.{slots, mostVoices, mostFrames}
 use Rattle.config.specs.Configuration.{configRows, configCode}
 use Rattle.config.proofs.Accepted.{Accepted, accepted}
+use Rattle.list.proofs.Bools.{or-false-l, or-false-r}
 use Rattle.refusal.specs.Judge.{firstOf, judged, _when_}
 use Rattle.refusal.proofs.Laws.{firstOf-zero, firstOf-code, judged-append, judged-row, judged-taken, judged-passed, judged-none}
 use Rattle.number.specs.Number.{one32}
@@ -181,17 +182,9 @@ module _ (w : Wiring) (tables : List Float) (l : Memories) (slotted : length (w 
       ∙ ap (λ (q : Program). record { answer = record { code = 0; program = q }; lent = madeIn w tables l }) (sym is)
       ∙ ap (λ (x : Memories). record { answer = record { code = 0; program = p }; lent = x }) (sym (memories-are t))
 
-  or-left : (a b : Bool) → a || b ≡ false → a ≡ false
-  or-left true b h = h
-  or-left false b h = refl
-
-  or-right : (a b : Bool) → a || b ≡ false → b ≡ false
-  or-right true b h = absurd (omega (arith, ap bit h))
-  or-right false b h = h
-
   -- both memories hold what the program needs
   pub values-fit : memory-test ≡ false → heldValues p ≤ length (l .values)
-  values-fit m = ltb-false (length (l .values)) (heldValues p) (or-left (ltb (length (l .values)) (heldValues p)) (ltb (length (l .audio)) (heldAudio p)) m)
+  values-fit m = ltb-false (length (l .values)) (heldValues p) (or-false-l (ltb (length (l .values)) (heldValues p)) (ltb (length (l .audio)) (heldAudio p)) m)
 
   pub audio-fits : memory-test ≡ false → heldAudio p ≤ length (l .audio)
-  audio-fits m = ltb-false (length (l .audio)) (heldAudio p) (or-right (ltb (length (l .values)) (heldValues p)) (ltb (length (l .audio)) (heldAudio p)) m)
+  audio-fits m = ltb-false (length (l .audio)) (heldAudio p) (or-false-r (ltb (length (l .values)) (heldValues p)) (ltb (length (l .audio)) (heldAudio p)) m)

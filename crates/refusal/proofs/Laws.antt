@@ -1,12 +1,13 @@
 -- What the judgement of rows says of them. Assumes nothing.
 use mathlib.Core.Path.{_≡_, refl, sym, ap, _∙_}
-use mathlib.Core.Logic.{_≢_, _⊎_, inl, inr, ⊎-elim}
+use mathlib.Core.Logic.{_≢_, _⊎_, ⊎-elim}
 use mathlib.Core.Bool.{Bool, true, false, _&&_}
 use mathlib.Core.List.{List, [], _∷_, _++_, List·Memᴰ, List·Memᴰ·head, List·Memᴰ·tail, List·Memᴰ·cases-cons, List·Memᴰ·not-nil, Memᴰ·append-right}
 use Prim.Native.Nat.{ℕ, zero, suc, _≤_, _<_}
 use native.Mathlib.Nat.{le-trans}
 use native.Mathlib.Omega.{arith}
 use lib.Dec.{T, leb, ltb, leb→le, ltb→lt}
+use Rattle.list.proofs.Bools.{which}
 use Rattle.refusal.specs.Judge.{Row, _when_, judged, firstOf, numbered, ascendsFrom, ascends, NoneApplies, First}
 
 -- ---- one row at a time
@@ -24,10 +25,6 @@ unfolding judged
 judged-passed r rs h = rw h
 
 -- ---- the first that applies
-
-either : (t : Bool) → (t ≡ true) ⊎ (t ≡ false)
-either true = inl refl
-either false = inr refl
 
 -- an answer is the number of the first row that applies
 pub judged-first : (rs : List Row) (n : ℕ) → judged rs ≡ n → n ≢ 0 → First rs n
@@ -54,7 +51,7 @@ judged-first (r ∷ rs) n e ne =
       applies = f .applies;
       none-before = λ x m. ⊎-elim (λ q. ap (λ (z : Row). z .applies) q ∙ y) (f .none-before x) (List·Memᴰ·cases-cons m);
     })
-    (either (r .applies))
+    (which (r .applies))
 
 -- a number only where its row applies
 pub first-applies : {rs : List Row} {n : ℕ} → First rs n → (r : Row) × List·Memᴰ r rs × (r .number ≡ n) × (r .applies ≡ true)
@@ -65,11 +62,11 @@ judged-applies rs n e ne = first-applies (judged-first rs n e ne)
 
 -- ---- 0 exactly where no row applies
 
-and-left : (a b : Bool) → T (a && b) → T a
+pub and-left : (a b : Bool) → T (a && b) → T a
 and-left true b h = tt
 and-left false b h = h
 
-and-right : (a b : Bool) → T (a && b) → T b
+pub and-right : (a b : Bool) → T (a && b) → T b
 and-right true b h = h
 and-right false b h = absurd h
 
@@ -94,7 +91,7 @@ judged-accepted (r ∷ rs) t e x m =
     (λ q. ap (λ (z : Row). z .applies) q ∙ y)
     (judged-accepted rs (and-right (ltb 0 (r .number)) (numbered rs) t) (sym (judged-passed r rs y) ∙ e) x)
     (List·Memᴰ·cases-cons m))
-    (either (r .applies))
+    (which (r .applies))
 
 -- ---- the lowest that applies
 
@@ -123,7 +120,7 @@ judged-below n (r ∷ rs) t x m a =
     absurd (omega arith))
     (λ q. omega (arith, judged-passed r rs y, judged-below (r .number) rs rest x q a))
     (List·Memᴰ·cases-cons m))
-    (either (r .applies))
+    (which (r .applies))
 
 -- where the numbers ascend, the answer is at most the number of every row that applies
 pub judged-lowest : (rs : List Row) → T (ascends rs) → (r : Row) → List·Memᴰ r rs → r .applies ≡ true → judged rs ≤ r .number
@@ -152,7 +149,7 @@ judged-append (r ∷ rs) ss t =
     judged-passed r (rs ++ ss) y
     ∙ judged-append rs ss (and-right (ltb 0 (r .number)) (numbered rs) t)
     ∙ ap (λ (c : ℕ). firstOf c (judged ss)) (sym (judged-passed r rs y)))
-    (either (r .applies))
+    (which (r .applies))
 
 -- rows none of which applies
 pub judged-skip : (rs ss : List Row) → NoneApplies rs → judged (rs ++ ss) ≡ judged ss

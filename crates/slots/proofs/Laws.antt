@@ -16,12 +16,6 @@ use Rattle.slots.specs.Slots.{emptySlot, isEmptySlot, numbersFinite, all
 
 -- ---- tests
 
-pub and-false : {a : Bool} (b : Bool) → a ≡ false → false ≡ (a && b)
-and-false b h = rw h
-
-pub and-true : {a b : Bool} → a ≡ true → b ≡ (a && b)
-and-true h = rw h
-
 pub one-if-true : {b : Bool} → b ≡ true → 1 ≡ oneIf b
 one-if-true h = rw h
 

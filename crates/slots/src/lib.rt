@@ -124,36 +124,21 @@ pub fn with_bypass(slot: Slot, bypass: bool) -> Slot
     next
 }
 
-pub fn with_polarity(slot: Slot, polarity: Polarity) -> Slot
-    ensures { λ r. ⌜ r ≡ withPolarity polarity slot ⌝ }
+// a slot made anew with these
+fn remade(
+    slot: Slot,
+    source_curve: Curve,
+    polarity: Polarity,
+    aux: Pick,
+    invert: bool,
+    aux_curve: Curve,
+) -> Slot
+    ensures { λ r.
+        ⌜ r ≡ withSourceCurve «source_curve»
+        (withPolarity polarity (withAux aux invert (withAuxCurve «aux_curve» slot))) ⌝ }
 {
     let source = slot.source;
-    let source_curve = slot.source_curve;
     let destination = slot.destination;
-    let aux = slot.aux;
-    let aux_curve = slot.aux_curve;
-    Slot {
-        source,
-        source_curve,
-        amount: slot.amount,
-        polarity,
-        destination,
-        aux,
-        aux_invert: slot.aux_invert,
-        aux_curve,
-        output: slot.output,
-        bypass: slot.bypass,
-    }
-}
-
-pub fn with_aux(slot: Slot, aux: Pick, invert: bool) -> Slot
-    ensures { λ r. ⌜ r ≡ withAux aux invert slot ⌝ }
-{
-    let source = slot.source;
-    let source_curve = slot.source_curve;
-    let polarity = slot.polarity;
-    let destination = slot.destination;
-    let aux_curve = slot.aux_curve;
     Slot {
         source,
         source_curve,
@@ -168,48 +153,43 @@ pub fn with_aux(slot: Slot, aux: Pick, invert: bool) -> Slot
     }
 }
 
+pub fn with_polarity(slot: Slot, polarity: Polarity) -> Slot
+    ensures { λ r. ⌜ r ≡ withPolarity polarity slot ⌝ }
+{
+    let source_curve = slot.source_curve;
+    let aux = slot.aux;
+    let aux_curve = slot.aux_curve;
+    let invert = slot.aux_invert;
+    remade(slot, source_curve, polarity, aux, invert, aux_curve)
+}
+
+pub fn with_aux(slot: Slot, aux: Pick, invert: bool) -> Slot
+    ensures { λ r. ⌜ r ≡ withAux aux invert slot ⌝ }
+{
+    let source_curve = slot.source_curve;
+    let polarity = slot.polarity;
+    let aux_curve = slot.aux_curve;
+    remade(slot, source_curve, polarity, aux, invert, aux_curve)
+}
+
 pub fn with_source_curve(slot: Slot, source_curve: Curve) -> Slot
     ensures { λ r. ⌜ r ≡ withSourceCurve «source_curve» slot ⌝ }
 {
-    let source = slot.source;
     let polarity = slot.polarity;
-    let destination = slot.destination;
     let aux = slot.aux;
     let aux_curve = slot.aux_curve;
-    Slot {
-        source,
-        source_curve,
-        amount: slot.amount,
-        polarity,
-        destination,
-        aux,
-        aux_invert: slot.aux_invert,
-        aux_curve,
-        output: slot.output,
-        bypass: slot.bypass,
-    }
+    let invert = slot.aux_invert;
+    remade(slot, source_curve, polarity, aux, invert, aux_curve)
 }
 
 pub fn with_aux_curve(slot: Slot, aux_curve: Curve) -> Slot
     ensures { λ r. ⌜ r ≡ withAuxCurve «aux_curve» slot ⌝ }
 {
-    let source = slot.source;
     let source_curve = slot.source_curve;
     let polarity = slot.polarity;
-    let destination = slot.destination;
     let aux = slot.aux;
-    Slot {
-        source,
-        source_curve,
-        amount: slot.amount,
-        polarity,
-        destination,
-        aux,
-        aux_invert: slot.aux_invert,
-        aux_curve,
-        output: slot.output,
-        bypass: slot.bypass,
-    }
+    let invert = slot.aux_invert;
+    remade(slot, source_curve, polarity, aux, invert, aux_curve)
 }
 
 // ---- the numbers of slots

@@ -14,20 +14,6 @@ use Rattle.curve_table.specs.Table.{points, allAllowed}
 use Rattle.state.specs.declared.Slot.{Slot}
 use Rattle.slots_tables.specs.Tables.{slotNames, anyNames, placeAllowed, allowedWhere, slotAllowed, slotsAllowed}
 
--- ---- tests
-
-pub and-false : {a : Bool} (b : Bool) → a ≡ false → false ≡ (a && b)
-and-false b h = rw h
-
-pub and-true : {a b : Bool} → a ≡ true → b ≡ (a && b)
-and-true h = rw h
-
-pub or-true : {a : Bool} (b : Bool) → a ≡ true → true ≡ (a || b)
-or-true b h = rw h
-
-pub or-false : {a b : Bool} → a ≡ false → b ≡ (a || b)
-or-false h = rw h
-
 -- ---- what a walk over the slots finds from slot i on
 
 pub names-from : (l : List Slot) (i : ℕ) (d : Slot) → i < length l → anyNames (drop i l) ≡ (slotNames (getD l i d) || anyNames (drop (i + 1) l))

@@ -1,7 +1,7 @@
 -- Laws of the registry that proofs cite in place of the definitions' text. Assumes nothing.
 use mathlib.Core.Path.{_≡_, refl, sym, ap, _∙_}
 use mathlib.Core.Bool.{Bool, true, false, cond}
-use mathlib.Core.Logic.{_⊎_, inl, inr, ⊎-elim}
+use mathlib.Core.Logic.{_⊎_, ⊎-elim}
 use mathlib.Core.List.{List, [], _∷_, _++_}
 use Prim.Native.Nat.{ℕ, zero, suc, _+_, _≤_, _<_, min}
 use native.Mathlib.Nat.{add-zero, le-of-suc-le-suc}
@@ -11,6 +11,7 @@ use lib.Dec.{eqb}
 use lib.ListN.{length, getD, take, drop, drop-of-length-le}
 use lib.Seq.{drop-cons, length-take-le, getD-take}
 use borrow.Author.Tests.{ne-eqb}
+use Rattle.list.proofs.Bools.{which}
 use Rattle.list.proofs.Elements.{getD-inside}
 use Rattle.refusal.specs.Judge.{judged}
 use Rattle.reply.specs.Reply.{accepts, refuses, byRows}
@@ -72,10 +73,6 @@ find-others n key (x ∷ es) e h = ap (λ (r : SourceFound). cond (keyIs key x) 
 no : true ≡ false → ⊥
 no h = let z : _≡_ {A = ℕ} 0 1 = cc in omega arith
 
-either : (t : Bool) → (t ≡ true) ⊎ (t ≡ false)
-either true = inl refl
-either false = inr refl
-
 -- where none has the key, the search goes on in what follows
 pub find-after : (n : ℕ) (key : List ℕ) (es fs : List Source) → isAt (findKey n key es) ≡ false → findKey n key (es ++ fs) ≡ findKey (n + length es) key fs
 unfolding findKey
@@ -87,7 +84,7 @@ find-after n key (e ∷ es) fs h =
     let rest = find-after (suc n) key es fs (rw y at h) in
     let at : suc n + length es ≡ n + suc (length es) = omega arith in
     rw y (rest ∙ ap (λ (m : ℕ). findKey m key fs) at))
-    (either (keyIs key e))
+    (which (keyIs key e))
 
 -- a key above 32 bytes is found nowhere
 pub find-too-long : (n : ℕ) (key : List ℕ) (es : List Source) → mostKeyBytes < length key → findKey n key es ≡ F.Nothing
@@ -125,7 +122,7 @@ find-first n key (e ∷ es) i h =
     let rest = find-first (suc n) key es i (rw y at h) in
     let at : i ≡ suc n + rest .0 = rest .1 in
     (suc (rest .0), omega arith, first-tail key e es (rest .0) y (rest .2)))
-    (either (keyIs key e))
+    (which (keyIs key e))
 
 pub found-first : (key : List ℕ) (es : List Source) (i : ℕ) → findKey 0 key es ≡ F.At i → FirstWith key es i
 found-first key es i h =

@@ -9,6 +9,7 @@ use lib.Dec.{eqb}
 use lib.ListN.{length, getD, drop}
 use lib.Seq.{drop-cons, drop-length}
 use borrow.Author.Tests.{eqb-true, eq-eqb}
+use Rattle.list.proofs.Bools.{and-true-l, and-true-r}
 use Rattle.source_key.specs.Bytes.{sameBytes}
 
 pub same-self : (xs : List ℕ) → sameBytes xs xs ≡ true
@@ -16,19 +17,14 @@ unfolding sameBytes
 same-self [] = refl
 same-self (x ∷ xs) = rw (eq-eqb x x refl) (same-self xs)
 
-both : (a b : Bool) → (a && b) ≡ true → (a ≡ true) × (b ≡ true)
-both true b h = (refl, h)
-both false b h = let z : _≡_ {A = ℕ} 0 1 = cc in absurd (omega arith)
-
 pub same-equal : (xs ys : List ℕ) → sameBytes xs ys ≡ true → xs ≡ ys
 unfolding sameBytes
 same-equal [] [] h = refl
 same-equal [] (y ∷ ys) h = let z : _≡_ {A = ℕ} 0 1 = cc in absurd (omega arith)
 same-equal (x ∷ xs) [] h = let z : _≡_ {A = ℕ} 0 1 = cc in absurd (omega arith)
 same-equal (x ∷ xs) (y ∷ ys) h =
-    let b = both (eqb x y) (sameBytes xs ys) h in
-    let here : x ≡ y = eqb-true x y (b .0) in
-    let rest : xs ≡ ys = same-equal xs ys (b .1) in
+    let here : x ≡ y = eqb-true x y (and-true-l (eqb x y) (sameBytes xs ys) h) in
+    let rest : xs ≡ ys = same-equal xs ys (and-true-r (eqb x y) (sameBytes xs ys) h) in
     cc
 
 is-false : (t : Bool) → (t ≡ true → ⊥) → t ≡ false

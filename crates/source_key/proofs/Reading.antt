@@ -11,16 +11,13 @@ use lib.Dec.{eqb, ltb, leb}
 use lib.ListN.{length, getD, take, drop, length-take, length-drop, drop-of-length-le}
 use lib.Seq.{drop-cons, take-length}
 use borrow.Author.Tests.{leb-true, lt-ltb, le-ltb, le-leb, lt-leb, ne-eqb}
+use Rattle.list.proofs.Bools.{and-true-l}
 use Rattle.source_key.specs.Bytes.{sameBytes}
 use Rattle.source_key.specs.Numbered.{isDigit, longer, readOn, numberThen, isNumbered}
 use Rattle.source_key.proofs.Bytes.{same-lengths}
 
-and-left : (a b : Bool) → (a && b) ≡ true → a ≡ true
-and-left true b h = refl
-and-left false b h = h
-
 pub digit-from : (b : ℕ) → isDigit b ≡ true → 48 ≤ b
-digit-from b h = leb-true 48 b (and-left (leb 48 b) (leb b 57) h)
+digit-from b h = leb-true 48 b (and-true-l (leb 48 b) (leb b 57) h)
 
 -- a part from the start, and one up to the end
 pub front : (l : List ℕ) (n : ℕ) → take (n - 0) (drop 0 l) ≡ take n l

@@ -22,26 +22,8 @@ Inv-loop verdict out₀ i₀ out i = (i ≤ slots) × (out ≡ candidatesOf (tak
 abbrev μ-loop : tie.MeasureT-loop
 μ-loop verdict out₀ i₀ out i = slots - i
 
-no-candidates-requires : tie.Need-no-candidates-requires Inv-loop μ-loop
-no-candidates-requires c κs = search needs
-
 loop-holds : tie.Need-loop-holds Inv-loop μ-loop
 loop-holds c = (search needs, c .no-candidates .ensures)
-
-mul-v : tie.Need-mul-v Inv-loop μ-loop
-mul-v c = search needs
-
-array-copy-out-v : tie.Need-array-copy-out-v Inv-loop μ-loop
-array-copy-out-v c = search needs
-
-with-candidate-requires : tie.Need-with-candidate-requires Inv-loop μ-loop
-with-candidate-requires c κs = search needs
-
-add-i : tie.Need-add-i Inv-loop μ-loop
-add-i c = search needs
-
-loop-less : tie.Need-loop-less Inv-loop μ-loop
-loop-less c = search needs
 
 loop-again : tie.Need-loop-again Inv-loop μ-loop
 loop-again c =
@@ -62,15 +44,5 @@ returns c =
 pub candidates-spec : {M : Type 1} → statement M
 candidates-spec =
     tie.close
-    (tie.spec
-    Inv-loop
-    μ-loop
-    no-candidates-requires
-    loop-holds
-    mul-v
-    array-copy-out-v
-    with-candidate-requires
-    add-i
-    loop-less
-    loop-again
-    returns)
+    (tie.spec Inv-loop μ-loop (λ c κs. search needs) loop-holds (λ c. search needs) (λ c. search needs)
+    (λ c κs. search needs) (λ c. search needs) (λ c. search needs) loop-again returns)

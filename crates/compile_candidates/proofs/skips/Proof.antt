@@ -22,26 +22,8 @@ Inv-loop verdict out₀ n₀ out n = (n ≤ slots) × (out ≡ skipsOf (leftOutF
 abbrev μ-loop : tie.MeasureT-loop
 μ-loop verdict out₀ n₀ out n = slots - n
 
-no-skips-requires : tie.Need-no-skips-requires Inv-loop μ-loop
-no-skips-requires c κs = search needs
-
 loop-holds : tie.Need-loop-holds Inv-loop μ-loop
 loop-holds c = (search needs, c .no-skips .ensures)
-
-mul-v : tie.Need-mul-v Inv-loop μ-loop
-mul-v c = search needs
-
-array-copy-out-v : tie.Need-array-copy-out-v Inv-loop μ-loop
-array-copy-out-v c = search needs
-
-with-skipped-requires : tie.Need-with-skipped-requires Inv-loop μ-loop
-with-skipped-requires c κs = search needs
-
-add-n : tie.Need-add-n Inv-loop μ-loop
-add-n c = search needs
-
-loop-less : tie.Need-loop-less Inv-loop μ-loop
-loop-less c = search needs
 
 loop-again : tie.Need-loop-again Inv-loop μ-loop
 loop-again c =
@@ -62,15 +44,5 @@ returns c =
 pub skips-spec : {M : Type 1} → statement M
 skips-spec =
     tie.close
-    (tie.spec
-    Inv-loop
-    μ-loop
-    no-skips-requires
-    loop-holds
-    mul-v
-    array-copy-out-v
-    with-skipped-requires
-    add-n
-    loop-less
-    loop-again
-    returns)
+    (tie.spec Inv-loop μ-loop (λ c κs. search needs) loop-holds (λ c. search needs) (λ c. search needs)
+    (λ c κs. search needs) (λ c. search needs) (λ c. search needs) loop-again returns)

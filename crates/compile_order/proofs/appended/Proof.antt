@@ -19,26 +19,8 @@ Inv-loop more n out₀ i₀ out i = (i ≤ n) × (numbersAdded out (drop i (numb
 abbrev μ-loop : tie.MeasureT-loop
 μ-loop more n out₀ i₀ out i = n - i
 
-held-requires : tie.Need-held-requires Inv-loop μ-loop
-held-requires c κs = search needs
-
 loop-holds : tie.Need-loop-holds Inv-loop μ-loop
 loop-holds c = (search needs, refl)
-
-mul-add-number : tie.Need-mul-add-number Inv-loop μ-loop
-mul-add-number c = search needs
-
-element-copy-out-add-number : tie.Need-element-copy-out-add-number Inv-loop μ-loop
-element-copy-out-add-number c = search needs
-
-add-number-requires : tie.Need-add-number-requires Inv-loop μ-loop
-add-number-requires c κs = search needs
-
-add-i : tie.Need-add-i Inv-loop μ-loop
-add-i c = search needs
-
-loop-less : tie.Need-loop-less Inv-loop μ-loop
-loop-less c = search needs
 
 loop-again : tie.Need-loop-again Inv-loop μ-loop
 loop-again c =
@@ -61,15 +43,5 @@ returns c =
 pub appended-spec : {M : Type 1} → statement M
 appended-spec =
     tie.close
-    (tie.spec
-    Inv-loop
-    μ-loop
-    held-requires
-    loop-holds
-    mul-add-number
-    element-copy-out-add-number
-    add-number-requires
-    add-i
-    loop-less
-    loop-again
-    returns)
+    (tie.spec Inv-loop μ-loop (λ c κs. search needs) loop-holds (λ c. search needs) (λ c. search needs)
+    (λ c κs. search needs) (λ c. search needs) (λ c. search needs) loop-again returns)

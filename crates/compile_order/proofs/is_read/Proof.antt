@@ -19,20 +19,8 @@ Inv-loop a b readers n i₀ i = (i ≤ n) × (anyReads a b (readersIn readers) �
 abbrev μ-loop : tie.MeasureT-loop
 μ-loop a b readers n i₀ i = n - i
 
-held-requires : tie.Need-held-requires Inv-loop μ-loop
-held-requires c κs = search needs
-
 loop-holds : tie.Need-loop-holds Inv-loop μ-loop
 loop-holds c = (search needs, refl)
-
-mul-x : tie.Need-mul-x Inv-loop μ-loop
-mul-x c = search needs
-
-element-copy-out-x : tie.Need-element-copy-out-x Inv-loop μ-loop
-element-copy-out-x c = search needs
-
-reads-requires : tie.Need-reads-requires Inv-loop μ-loop
-reads-requires c κs = search needs
 
 returns : tie.Need-returns Inv-loop μ-loop
 returns c =
@@ -41,12 +29,6 @@ returns c =
     let a = at-loop .before .before .args in
     let long : length (a .t1 .at) ≡ slots = search (needs, length-mapped) in
     sym (l .inv .1 ∙ read-here (a .t1) (a .a) (a .b) long (l .i) _ (omega arith) (sym (c .before .reads .ensures) ∙ c .if1 .taken))
-
-add-i : tie.Need-add-i Inv-loop μ-loop
-add-i c = search needs
-
-loop-less : tie.Need-loop-less Inv-loop μ-loop
-loop-less c = search needs
 
 loop-again : tie.Need-loop-again Inv-loop μ-loop
 loop-again c =
@@ -66,16 +48,5 @@ returns-2 c =
 pub is-read-spec : {M : Type 1} → statement M
 is-read-spec =
     tie.close
-    (tie.spec
-    Inv-loop
-    μ-loop
-    held-requires
-    loop-holds
-    mul-x
-    element-copy-out-x
-    reads-requires
-    returns
-    add-i
-    loop-less
-    loop-again
-    returns-2)
+    (tie.spec Inv-loop μ-loop (λ c κs. search needs) loop-holds (λ c. search needs) (λ c. search needs)
+    (λ c κs. search needs) returns (λ c. search needs) (λ c. search needs) loop-again returns-2)

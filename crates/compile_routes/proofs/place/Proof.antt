@@ -16,20 +16,8 @@ Inv-loop d order n i₀ i = (i ≤ n) × Passed order d i
 abbrev μ-loop : tie.MeasureT-loop
 μ-loop d order n i₀ i = n - i
 
-held-requires : tie.Need-held-requires Inv-loop μ-loop
-held-requires c κs = search needs
-
 loop-holds : tie.Need-loop-holds Inv-loop μ-loop
 loop-holds c = (search needs, passed-none (c .before .args .t1) _)
-
-mul-if1 : tie.Need-mul-if1 Inv-loop μ-loop
-mul-if1 c = search needs
-
-element-copy-out-if1 : tie.Need-element-copy-out-if1 Inv-loop μ-loop
-element-copy-out-if1 c = search needs
-
-cast-result : tie.Need-cast-result Inv-loop μ-loop
-cast-result c = search needs
 
 returns : tie.Need-returns Inv-loop μ-loop
 returns c =
@@ -38,21 +26,12 @@ returns c =
     let e : length (a .t1 .at) ≡ slots = search (needs, length-mapped) in
     sym (passed-here (a .t1) (a .d) e (l .i) (l .inv .1) (omega arith) (c .if1 .taken))
 
-add-i : tie.Need-add-i Inv-loop μ-loop
-add-i c = search needs
-
-loop-less : tie.Need-loop-less Inv-loop μ-loop
-loop-less c = search needs
-
 loop-again : tie.Need-loop-again Inv-loop μ-loop
 loop-again c =
     let l = c .before .before .before .loop in
     let a = c .before .before .before .before .before .args in
     let e : length (a .t1 .at) ≡ slots = search (needs, length-mapped) in
     (search needs, passed-next (a .t1) (a .d) e (l .i) (l .inv .1) (omega arith) (c .if1 .left))
-
-cast-result-2 : tie.Need-cast-result-2 Inv-loop μ-loop
-cast-result-2 c = search needs
 
 returns-2 : tie.Need-returns-2 Inv-loop μ-loop
 returns-2 c =
@@ -64,17 +43,5 @@ returns-2 c =
 pub place-spec : {M : Type 1} → statement M
 place-spec =
     tie.close
-    (tie.spec
-    Inv-loop
-    μ-loop
-    held-requires
-    loop-holds
-    mul-if1
-    element-copy-out-if1
-    cast-result
-    returns
-    add-i
-    loop-less
-    loop-again
-    cast-result-2
-    returns-2)
+    (tie.spec Inv-loop μ-loop (λ c κs. search needs) loop-holds (λ c. search needs) (λ c. search needs)
+    (λ c. search needs) returns (λ c. search needs) (λ c. search needs) loop-again (λ c. search needs) returns-2)

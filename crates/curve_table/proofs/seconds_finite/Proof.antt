@@ -1,13 +1,11 @@
 -- `curve_table::seconds_finite` meets its contract.
 use mathlib.Core.Path.{_≡_, sym, ap, _∙_}
-use mathlib.Core.Bool.{Bool, true, false, _&&_}
+use mathlib.Core.Bool.{Bool, false, _&&_}
 use borrow.Author.Needs.{needs}
+use Rattle.list.proofs.Bools.{and-true}
 use Rattle.curve_table.specs.Curve.{secondsFinite}
 use Rattle.curve_table.proofs.seconds_finite.Statement.{statement}
 use Rattle.curve_table.proofs.seconds_finite.Tie as tie
-
-second : {a b : Bool} → a ≡ true → b ≡ (a && b)
-second {a} {b} h = rw h
 
 first : {a : Bool} (b : Bool) → a ≡ false → a ≡ (a && b)
 first b h = rw h
@@ -33,7 +31,7 @@ unfolding secondsFinite
 returns-2 c =
     let known = c .before .before in
     let variant = known .before .before .curve .given .1 in
-    c .is-finite2 .ensures ∙ second (sym (known .is-finite .ensures) ∙ c .before .if1 .taken) ∙ sym (ap secondsFinite variant)
+    c .is-finite2 .ensures ∙ and-true (sym (known .is-finite .ensures) ∙ c .before .if1 .taken) ∙ sym (ap secondsFinite variant)
 
 returns-3 : tie.Need-returns-3
 unfolding secondsFinite

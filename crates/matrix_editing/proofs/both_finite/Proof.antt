@@ -1,7 +1,7 @@
 -- `matrix_editing::both_finite` meets its contract.
 use mathlib.Core.Path.{sym, _∙_}
 use borrow.Author.Tests.{not-true, not-false}
-use Rattle.slots.proofs.Laws.{and-false, and-true}
+use Rattle.list.proofs.Bools.{and-false, and-true}
 use Rattle.matrix_editing.specs.Drag.{bothFinite}
 use borrow.Author.Needs.{needs}
 use Rattle.matrix_editing.proofs.both_finite.Statement.{statement}

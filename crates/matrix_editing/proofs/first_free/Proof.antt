@@ -19,27 +19,12 @@ abbrev μ-loop : tie.MeasureT-loop
 loop-holds : tie.Need-loop-holds Inv-loop μ-loop
 loop-holds c = (search needs, omega arith)
 
-mul-lfo : tie.Need-mul-lfo Inv-loop μ-loop
-mul-lfo c = search needs
-
-shared-slice-read-lfo : tie.Need-shared-slice-read-lfo Inv-loop μ-loop
-shared-slice-read-lfo c = search needs
-
-in-use-requires : tie.Need-in-use-requires Inv-loop μ-loop
-in-use-requires c κs = search needs
-
 returns : tie.Need-returns Inv-loop μ-loop
 returns c =
     let l = c .before .before .before .before .loop in
     let a = c .before .before .before .before .before .before .args in
     let e = free-here (a .lfos .now) (a .slot) (l .i) (omega arith) (sym (c .before .in-use .ensures) ∙ not-true _ (c .if1 .taken)) in
     omega (arith, l .inv .1, e)
-
-add-i : tie.Need-add-i Inv-loop μ-loop
-add-i c = search needs
-
-loop-less : tie.Need-loop-less Inv-loop μ-loop
-loop-less c = search needs
 
 loop-again : tie.Need-loop-again Inv-loop μ-loop
 loop-again c =
@@ -55,4 +40,7 @@ returns-2 c =
     omega (arith, l .inv .1, free-past (a .lfos .now) (a .slot) (l .i) (omega arith))
 
 pub first-free-spec : {M : Type 1} → statement M
-first-free-spec = tie.close (tie.spec Inv-loop μ-loop loop-holds mul-lfo shared-slice-read-lfo in-use-requires returns add-i loop-less loop-again returns-2)
+first-free-spec =
+    tie.close
+    (tie.spec Inv-loop μ-loop loop-holds (λ c. search needs) (λ c. search needs) (λ c κs. search needs) returns
+    (λ c. search needs) (λ c. search needs) loop-again returns-2)

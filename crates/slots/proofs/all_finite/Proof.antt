@@ -7,7 +7,8 @@ use borrow.Author.Tests.{not-true, not-false}
 use lib.ListN.{length, drop}
 use Rattle.config.specs.Sizes.{slots}
 use Rattle.slots.specs.Slots.{allFinite}
-use Rattle.slots.proofs.Laws.{and-false, and-true, finite-from, finite-past}
+use Rattle.list.proofs.Bools.{and-false, and-true}
+use Rattle.slots.proofs.Laws.{finite-from, finite-past}
 use Rattle.slots.proofs.all_finite.Statement.{statement}
 use Rattle.slots.proofs.all_finite.Tie as tie
 
@@ -20,25 +21,10 @@ abbrev μ-loop : tie.MeasureT-loop
 loop-holds : tie.Need-loop-holds Inv-loop μ-loop
 loop-holds c = (search needs, search needs, refl)
 
-mul-s : tie.Need-mul-s Inv-loop μ-loop
-mul-s c = search needs
-
-array-copy-out-s : tie.Need-array-copy-out-s Inv-loop μ-loop
-array-copy-out-s c = search needs
-
-numbers-finite-requires : tie.Need-numbers-finite-requires Inv-loop μ-loop
-numbers-finite-requires c κs = search needs
-
 returns : tie.Need-returns Inv-loop μ-loop
 returns c =
     let l = c .before .before .before .before .loop in
     sym (l .inv .2 ∙ finite-from _ (l .i) _ (omega arith) ∙ sym (and-false _ (sym (c .before .numbers-finite .ensures) ∙ not-true _ (c .if1 .taken))))
-
-add-i : tie.Need-add-i Inv-loop μ-loop
-add-i c = search needs
-
-loop-less : tie.Need-loop-less Inv-loop μ-loop
-loop-less c = search needs
 
 loop-again : tie.Need-loop-again Inv-loop μ-loop
 loop-again c =
@@ -51,4 +37,7 @@ returns-2 c =
     sym (l .inv .2 ∙ finite-past _ (l .i) (omega arith))
 
 pub all-finite-spec : {M : Type 1} → statement M
-all-finite-spec = tie.close (tie.spec Inv-loop μ-loop loop-holds mul-s array-copy-out-s numbers-finite-requires returns add-i loop-less loop-again returns-2)
+all-finite-spec =
+    tie.close
+    (tie.spec Inv-loop μ-loop loop-holds (λ c. search needs) (λ c. search needs) (λ c κs. search needs) returns
+    (λ c. search needs) (λ c. search needs) loop-again returns-2)

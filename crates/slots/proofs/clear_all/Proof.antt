@@ -21,26 +21,8 @@ abbrev μ-loop : tie.MeasureT-loop
 loop-holds : tie.Need-loop-holds Inv-loop μ-loop
 loop-holds c = (search needs, search needs, filled-none _ _)
 
-mul-s : tie.Need-mul-s Inv-loop μ-loop
-mul-s c = search needs
-
-array-copy-out-s : tie.Need-array-copy-out-s Inv-loop μ-loop
-array-copy-out-s c = search needs
-
-clear-requires : tie.Need-clear-requires Inv-loop μ-loop
-clear-requires c κs = search needs
-
-mul-next : tie.Need-mul-next Inv-loop μ-loop
-mul-next c = search needs
-
 array-set-from-next : tie.Need-array-set-from-next Inv-loop μ-loop
 array-set-from-next c = omega (arith, c .before .before .before .loop .inv .2 .as-long)
-
-add-i : tie.Need-add-i Inv-loop μ-loop
-add-i c = search needs
-
-loop-less : tie.Need-loop-less Inv-loop μ-loop
-loop-less c = search needs
 
 loop-again : tie.Need-loop-again Inv-loop μ-loop
 loop-again c =
@@ -55,4 +37,7 @@ returns c =
     filled-all (c .before .loop .inv .2) (omega arith) ∙ map-fill (cleared (a .target)) (a .t2) emptySlot
 
 pub clear-all-spec : {M : Type 1} → statement M
-clear-all-spec = tie.close (tie.spec Inv-loop μ-loop loop-holds mul-s array-copy-out-s clear-requires mul-next array-set-from-next add-i loop-less loop-again returns)
+clear-all-spec =
+    tie.close
+    (tie.spec Inv-loop μ-loop loop-holds (λ c. search needs) (λ c. search needs) (λ c κs. search needs)
+    (λ c. search needs) array-set-from-next (λ c. search needs) (λ c. search needs) loop-again returns)

@@ -19,24 +19,6 @@ abbrev μ-loop : tie.MeasureT-loop
 loop-holds : tie.Need-loop-holds Inv-loop μ-loop
 loop-holds c = (search needs, search needs, search needs, omega arith)
 
-mul-s : tie.Need-mul-s Inv-loop μ-loop
-mul-s c = search needs
-
-array-copy-out-s : tie.Need-array-copy-out-s Inv-loop μ-loop
-array-copy-out-s c = search needs
-
-aim-count-requires : tie.Need-aim-count-requires Inv-loop μ-loop
-aim-count-requires c κs = search needs
-
-add-count : tie.Need-add-count Inv-loop μ-loop
-add-count c = search needs
-
-add-i : tie.Need-add-i Inv-loop μ-loop
-add-i c = search needs
-
-loop-less : tie.Need-loop-less Inv-loop μ-loop
-loop-less c = search needs
-
 loop-again : tie.Need-loop-again Inv-loop μ-loop
 loop-again c =
     let a = c .before .before .before .before .args in
@@ -50,4 +32,7 @@ returns c =
     omega (arith, c .before .loop .inv .3, count-past (a .target) (a .t2) (c .before .loop .i) (omega arith))
 
 pub count-aims-spec : {M : Type 1} → statement M
-count-aims-spec = tie.close (tie.spec Inv-loop μ-loop loop-holds mul-s array-copy-out-s aim-count-requires add-count add-i loop-less loop-again returns)
+count-aims-spec =
+    tie.close
+    (tie.spec Inv-loop μ-loop loop-holds (λ c. search needs) (λ c. search needs) (λ c κs. search needs)
+    (λ c. search needs) (λ c. search needs) (λ c. search needs) loop-again returns)

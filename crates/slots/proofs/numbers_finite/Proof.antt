@@ -3,7 +3,7 @@ use mathlib.Core.Path.{sym, _∙_}
 use borrow.Author.Needs.{needs}
 use borrow.Author.Tests.{not-true, not-false}
 use Rattle.slots.specs.Slots.{numbersFinite}
-use Rattle.slots.proofs.Laws.{and-false, and-true}
+use Rattle.list.proofs.Bools.{and-false, and-true}
 use Rattle.slots.proofs.numbers_finite.Statement.{statement}
 use Rattle.slots.proofs.numbers_finite.Tie as tie
 

@@ -1,12 +1,12 @@
 -- `slots::with_aux` meets its contract.
 use borrow.Author.Needs.{needs}
-use Rattle.slots.specs.Slots.{withAux}
+use Rattle.slots.specs.Slots.{withPolarity, withAux, withSourceCurve, withAuxCurve}
 use Rattle.slots.proofs.with_aux.Statement.{statement}
 use Rattle.slots.proofs.with_aux.Tie as tie
 
 returns : tie.Need-returns
-unfolding withAux
-returns c = search needs
+unfolding withPolarity withAux withSourceCurve withAuxCurve
+returns c = c .remade .ensures
 
 pub with-aux-spec : {M : Type 1} → statement M
-with-aux-spec = tie.close (tie.spec returns)
+with-aux-spec = tie.close (tie.spec (λ c κs. search needs) returns)

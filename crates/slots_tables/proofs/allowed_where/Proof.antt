@@ -1,7 +1,7 @@
 -- `slots_tables::allowed_where` meets its contract.
 use mathlib.Core.Path.{_∙_}
 use borrow.Author.Needs.{needs}
-use Rattle.slots_tables.proofs.Laws.{or-false}
+use Rattle.list.proofs.Bools.{or-false}
 use Rattle.slots_tables.proofs.allowed_where.Statement.{statement}
 use Rattle.slots_tables.proofs.allowed_where.Tie as tie
 

@@ -3,7 +3,7 @@ use mathlib.Core.Path.{sym, _∙_}
 use borrow.Author.Needs.{needs}
 use borrow.Author.Tests.{not-true, not-false}
 use Rattle.slots_tables.specs.Rows.{curveAllowed}
-use Rattle.slots_tables.proofs.Laws.{and-false, and-true}
+use Rattle.list.proofs.Bools.{and-false, and-true}
 use Rattle.slots_tables.proofs.curve_allowed.Statement.{statement}
 use Rattle.slots_tables.proofs.curve_allowed.Tie as tie
 

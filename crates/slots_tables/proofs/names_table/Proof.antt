@@ -2,7 +2,7 @@
 use mathlib.Core.Path.{sym, _∙_}
 use borrow.Author.Needs.{needs}
 use Rattle.slots_tables.specs.Tables.{namesTable}
-use Rattle.slots_tables.proofs.Laws.{or-true, or-false}
+use Rattle.list.proofs.Bools.{or-true, or-false}
 use Rattle.slots_tables.proofs.names_table.Statement.{statement}
 use Rattle.slots_tables.proofs.names_table.Tie as tie
 

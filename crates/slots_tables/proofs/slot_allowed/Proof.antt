@@ -3,7 +3,8 @@ use mathlib.Core.Path.{sym, _∙_}
 use borrow.Author.Needs.{needs}
 use borrow.Author.Tests.{not-true, not-false}
 use Rattle.slots_tables.specs.Tables.{slotAllowed}
-use Rattle.slots_tables.proofs.Laws.{and-false, and-true, where-curve}
+use Rattle.list.proofs.Bools.{and-false, and-true}
+use Rattle.slots_tables.proofs.Laws.{where-curve}
 use Rattle.slots_tables.proofs.slot_allowed.Statement.{statement}
 use Rattle.slots_tables.proofs.slot_allowed.Tie as tie
 

@@ -3,7 +3,7 @@ use mathlib.Core.Path.{sym, ap, _∙_}
 use mathlib.Core.Bool.{not}
 use borrow.Author.Needs.{needs}
 use Rattle.slots_tables.specs.Tables.{slotNames}
-use Rattle.slots_tables.proofs.Laws.{or-true, or-false}
+use Rattle.list.proofs.Bools.{or-true, or-false}
 use Rattle.slots_tables.proofs.slot_names.Statement.{statement}
 use Rattle.slots_tables.proofs.slot_names.Tie as tie
 

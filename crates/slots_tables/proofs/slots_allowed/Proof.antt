@@ -7,7 +7,8 @@ use borrow.Author.Tests.{not-true, not-false}
 use lib.ListN.{length, drop}
 use Rattle.config.specs.Sizes.{slots}
 use Rattle.slots_tables.specs.Tables.{slotsAllowed}
-use Rattle.slots_tables.proofs.Laws.{and-false, and-true, allowed-from, allowed-past}
+use Rattle.list.proofs.Bools.{and-false, and-true}
+use Rattle.slots_tables.proofs.Laws.{allowed-from, allowed-past}
 use Rattle.slots_tables.proofs.slots_allowed.Statement.{statement}
 use Rattle.slots_tables.proofs.slots_allowed.Tie as tie
 

@@ -21,15 +21,6 @@ abbrev μ-loop : tie.MeasureT-loop
 loop-holds : tie.Need-loop-holds Inv-loop μ-loop
 loop-holds c = (search needs, search needs, refl)
 
-mul-n : tie.Need-mul-n Inv-loop μ-loop
-mul-n c = search needs
-
-shared-slice-read-n : tie.Need-shared-slice-read-n Inv-loop μ-loop
-shared-slice-read-n c = search needs
-
-sub-if1 : tie.Need-sub-if1 Inv-loop μ-loop
-sub-if1 c = search needs
-
 returns : tie.Need-returns Inv-loop μ-loop
 returns c =
     let head = c .before .before .before in
@@ -38,12 +29,6 @@ returns c =
     let lengths = a .lengths .now in
     let inside : head .loop .i < length lengths = omega arith in
     sym (head .loop .inv .2 ∙ clash-none bytes lengths (head .loop .start) (head .loop .i) (a .counts) inside (c .if1 .taken))
-
-add-end : tie.Need-add-end Inv-loop μ-loop
-add-end c = search needs
-
-add-i : tie.Need-add-i Inv-loop μ-loop
-add-i c = search needs
 
 key-clashes-requires : tie.Need-key-clashes-requires Inv-loop μ-loop
 key-clashes-requires c κs =
@@ -58,9 +43,6 @@ returns-2 c =
     let inside : head .loop .i < length lengths = omega arith in
     let fits : head .loop .start + getD lengths (head .loop .i) 0 ≤ length bytes = omega arith in
     sym (head .loop .inv .2 ∙ clash-hit bytes lengths (head .loop .start) (head .loop .i) (a .counts) inside fits (sym (c .before .key-clashes .ensures) ∙ c .if2 .taken))
-
-loop-less : tie.Need-loop-less Inv-loop μ-loop
-loop-less c = search needs
 
 loop-again : tie.Need-loop-again Inv-loop μ-loop
 loop-again c =
@@ -81,18 +63,5 @@ returns-3 c =
 pub any-clash-spec : {M : Type 1} → statement M
 any-clash-spec =
     tie.close
-    (tie.spec
-    Inv-loop
-    μ-loop
-    loop-holds
-    mul-n
-    shared-slice-read-n
-    sub-if1
-    returns
-    add-end
-    add-i
-    key-clashes-requires
-    returns-2
-    loop-less
-    loop-again
-    returns-3)
+    (tie.spec Inv-loop μ-loop loop-holds (λ c. search needs) (λ c. search needs) (λ c. search needs) returns
+    (λ c. search needs) (λ c. search needs) key-clashes-requires returns-2 (λ c. search needs) loop-again returns-3)

@@ -1,16 +1,25 @@
 -- `source::find_key` meets its contract. The loop's invariant: the answer is that of the entries from i on. Assumes nothing.
 use mathlib.Core.Path.{_≡_, refl, sym, ap, _∙_}
-use Prim.Native.Nat.{_-_, _≤_, _<_}
+use mathlib.Core.Bool.{Bool}
+use mathlib.Core.List.{List}
+use Prim.Native.Nat.{ℕ, _-_, _≤_, _<_}
 use native.Mathlib.Omega.{arith}
 use borrow.Author.Needs.{needs}
-use lib.ListN.{length, drop, length-map}
+use lib.ListN.{length, getD, drop, length-map}
 use Rattle.config.specs.Sizes.{mostSources}
 use Rattle.source.specs.Keys.{keyIs}
+use Rattle.state.specs.declared.Sources.{Sources}
 use Rattle.state.specs.Registry.{sourceCount}
 use Rattle.source.specs.Registry.{registered, findKey}
 use Rattle.source.proofs.Registry.{pastEnd, registered-length, registered-at, find-here, find-next, find-past}
 use Rattle.source.proofs.find_key.Statement.{statement}
 use Rattle.source.proofs.find_key.Tie as tie
+
+-- entry i of those that are registered, and whether it has the key
+told : (s : Sources) (key : List ℕ) (i : ℕ) (t b : Bool) → length (s .entry) ≡ mostSources → i < sourceCount s → t ≡ keyIs key (getD (s .entry) i pastEnd) → t ≡ b
+    → (i < length (registered s)) × (keyIs key (getD (registered s) i pastEnd) ≡ b)
+told s key i t b long inside e h =
+    (rw (registered-length s long) inside, ap (keyIs key) (registered-at s i pastEnd pastEnd long inside) ∙ sym e ∙ h)
 
 abbrev Inv-loop : tie.InvT-loop
 Inv-loop key sources n i₀ i =
@@ -21,20 +30,8 @@ Inv-loop key sources n i₀ i =
 abbrev μ-loop : tie.MeasureT-loop
 μ-loop key sources n i₀ i = n - i
 
-len-requires : tie.Need-len-requires Inv-loop μ-loop
-len-requires c κs = search needs
-
 loop-holds : tie.Need-loop-holds Inv-loop μ-loop
 loop-holds c = (search needs, c .len .ensures, refl)
-
-mul-source : tie.Need-mul-source Inv-loop μ-loop
-mul-source c = search needs
-
-element-copy-out-source : tie.Need-element-copy-out-source Inv-loop μ-loop
-element-copy-out-source c = search needs
-
-key-is-requires : tie.Need-key-is-requires Inv-loop μ-loop
-key-is-requires c κs = search needs
 
 returns : tie.Need-returns Inv-loop μ-loop
 returns c =
@@ -43,17 +40,8 @@ returns c =
     let s = start .args .t1 in
     let key = start .args .key .now in
     let long : length (s .entry) ≡ mostSources = simp length-map at (start .good .0 .1 .1 .1 .0 .1 .0 .1) in
-    let inside : head .loop .i < sourceCount s = omega arith in
-    let below : head .loop .i < length (registered s) = rw (registered-length s long) inside in
-    let same = registered-at s (head .loop .i) pastEnd pastEnd long inside in
-    let here = ap (keyIs key) same ∙ sym (c .before .key-is .ensures) ∙ c .if1 .taken in
-    sym (head .loop .inv .2 ∙ find-here key (registered s) (head .loop .i) pastEnd below here)
-
-add-i : tie.Need-add-i Inv-loop μ-loop
-add-i c = search needs
-
-loop-less : tie.Need-loop-less Inv-loop μ-loop
-loop-less c = search needs
+    let t = told s key (head .loop .i) _ _ long (omega arith) (c .before .key-is .ensures) (c .if1 .taken) in
+    sym (head .loop .inv .2 ∙ find-here key (registered s) (head .loop .i) pastEnd (t .0) (t .1))
 
 loop-again : tie.Need-loop-again Inv-loop μ-loop
 loop-again c =
@@ -62,11 +50,8 @@ loop-again c =
     let s = start .args .t1 in
     let key = start .args .key .now in
     let long : length (s .entry) ≡ mostSources = simp length-map at (start .good .0 .1 .1 .1 .0 .1 .0 .1) in
-    let inside : head .loop .i < sourceCount s = omega arith in
-    let below : head .loop .i < length (registered s) = rw (registered-length s long) inside in
-    let same = registered-at s (head .loop .i) pastEnd pastEnd long inside in
-    let here = ap (keyIs key) same ∙ sym (c .before .key-is .ensures) ∙ c .if1 .left in
-    (search needs, head .loop .inv .1, head .loop .inv .2 ∙ find-next key (registered s) (head .loop .i) pastEnd below here)
+    let t = told s key (head .loop .i) _ _ long (omega arith) (c .before .key-is .ensures) (c .if1 .left) in
+    (search needs, head .loop .inv .1, head .loop .inv .2 ∙ find-next key (registered s) (head .loop .i) pastEnd (t .0) (t .1))
 
 returns-2 : tie.Need-returns-2 Inv-loop μ-loop
 returns-2 c =
@@ -80,16 +65,5 @@ returns-2 c =
 pub find-key-spec : {M : Type 1} → statement M
 find-key-spec =
     tie.close
-    (tie.spec
-    Inv-loop
-    μ-loop
-    len-requires
-    loop-holds
-    mul-source
-    element-copy-out-source
-    key-is-requires
-    returns
-    add-i
-    loop-less
-    loop-again
-    returns-2)
+    (tie.spec Inv-loop μ-loop (λ c κs. search needs) loop-holds (λ c. search needs) (λ c. search needs)
+    (λ c κs. search needs) returns (λ c. search needs) (λ c. search needs) loop-again returns-2)

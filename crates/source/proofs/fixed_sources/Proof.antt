@@ -4,27 +4,6 @@ use borrow.Author.Needs.{needs}
 use Rattle.source.proofs.fixed_sources.Statement.{statement}
 use Rattle.source.proofs.fixed_sources.Tie as tie
 
-new-requires : tie.Need-new-requires
-new-requires c κs = search needs
-
-with-note-sources-requires : tie.Need-with-note-sources-requires
-with-note-sources-requires c κs = search needs
-
-with-controllers-requires : tie.Need-with-controllers-requires
-with-controllers-requires c κs = search needs
-
-slice-aggregate-with-usual : tie.Need-slice-aggregate-with-usual
-slice-aggregate-with-usual c = search needs
-
-with-usual-requires : tie.Need-with-usual-requires
-with-usual-requires c κs = search needs
-
-slice-aggregate-with-usual-2 : tie.Need-slice-aggregate-with-usual-2
-slice-aggregate-with-usual-2 c = search needs
-
-with-usual-requires-2 : tie.Need-with-usual-requires-2
-with-usual-requires-2 c κs = search needs
-
 returns : tie.Need-returns
 unfolding fixedSources
 returns c =
@@ -39,12 +18,5 @@ returns c =
 pub fixed-sources-spec : {M : Type 1} → statement M
 fixed-sources-spec =
     tie.close
-    (tie.spec
-    new-requires
-    with-note-sources-requires
-    with-controllers-requires
-    slice-aggregate-with-usual
-    with-usual-requires
-    slice-aggregate-with-usual-2
-    with-usual-requires-2
-    returns)
+    (tie.spec (λ c κs. search needs) (λ c κs. search needs) (λ c κs. search needs) (λ c. search needs)
+    (λ c κs. search needs) (λ c. search needs) (λ c κs. search needs) returns)

@@ -4,60 +4,6 @@ use borrow.Author.Needs.{needs}
 use Rattle.source.proofs.with_controllers.Statement.{statement}
 use Rattle.source.proofs.with_controllers.Tie as tie
 
-new-requires : tie.Need-new-requires
-new-requires c κs = search needs
-
-bipolar-requires : tie.Need-bipolar-requires
-bipolar-requires c κs = search needs
-
-held-info-requires : tie.Need-held-info-requires
-held-info-requires c κs = search needs
-
-bipolar-requires-2 : tie.Need-bipolar-requires-2
-bipolar-requires-2 c κs = search needs
-
-slice-aggregate-with-usual : tie.Need-slice-aggregate-with-usual
-slice-aggregate-with-usual c = search needs
-
-with-usual-requires : tie.Need-with-usual-requires
-with-usual-requires c κs = search needs
-
-slice-aggregate-with-source : tie.Need-slice-aggregate-with-source
-slice-aggregate-with-source c = search needs
-
-with-source-requires : tie.Need-with-source-requires
-with-source-requires c κs = search needs
-
-slice-aggregate-with-source-2 : tie.Need-slice-aggregate-with-source-2
-slice-aggregate-with-source-2 c = search needs
-
-with-source-requires-2 : tie.Need-with-source-requires-2
-with-source-requires-2 c κs = search needs
-
-slice-aggregate-with-source-3 : tie.Need-slice-aggregate-with-source-3
-slice-aggregate-with-source-3 c = search needs
-
-with-source-requires-3 : tie.Need-with-source-requires-3
-with-source-requires-3 c κs = search needs
-
-slice-aggregate-with-source-4 : tie.Need-slice-aggregate-with-source-4
-slice-aggregate-with-source-4 c = search needs
-
-with-source-requires-4 : tie.Need-with-source-requires-4
-with-source-requires-4 c κs = search needs
-
-slice-aggregate-with-usual-2 : tie.Need-slice-aggregate-with-usual-2
-slice-aggregate-with-usual-2 c = search needs
-
-with-usual-requires-2 : tie.Need-with-usual-requires-2
-with-usual-requires-2 c κs = search needs
-
-slice-aggregate-with-usual-3 : tie.Need-slice-aggregate-with-usual-3
-slice-aggregate-with-usual-3 c = search needs
-
-with-usual-requires-3 : tie.Need-with-usual-requires-3
-with-usual-requires-3 c κs = search needs
-
 returns : tie.Need-returns
 unfolding withControllers
 returns c =
@@ -78,23 +24,7 @@ returns c =
 pub with-controllers-spec : {M : Type 1} → statement M
 with-controllers-spec =
     tie.close
-    (tie.spec
-    new-requires
-    bipolar-requires
-    held-info-requires
-    bipolar-requires-2
-    slice-aggregate-with-usual
-    with-usual-requires
-    slice-aggregate-with-source
-    with-source-requires
-    slice-aggregate-with-source-2
-    with-source-requires-2
-    slice-aggregate-with-source-3
-    with-source-requires-3
-    slice-aggregate-with-source-4
-    with-source-requires-4
-    slice-aggregate-with-usual-2
-    with-usual-requires-2
-    slice-aggregate-with-usual-3
-    with-usual-requires-3
-    returns)
+    (tie.spec (λ c κs. search needs) (λ c κs. search needs) (λ c κs. search needs) (λ c κs. search needs)
+    (λ c. search needs) (λ c κs. search needs) (λ c. search needs) (λ c κs. search needs) (λ c. search needs)
+    (λ c κs. search needs) (λ c. search needs) (λ c κs. search needs) (λ c. search needs) (λ c κs. search needs)
+    (λ c. search needs) (λ c κs. search needs) (λ c. search needs) (λ c κs. search needs) returns)

@@ -16,20 +16,8 @@ Inv-loop target dests n i₀ i = (i ≤ n) × Passed dests target i
 abbrev μ-loop : tie.MeasureT-loop
 μ-loop target dests n i₀ i = n - i
 
-dest-count-requires : tie.Need-dest-count-requires Inv-loop μ-loop
-dest-count-requires c κs = search needs
-
 loop-holds : tie.Need-loop-holds Inv-loop μ-loop
 loop-holds c = (search needs, passed-none (c .before .args .t1) _)
-
-mul-e : tie.Need-mul-e Inv-loop μ-loop
-mul-e c = search needs
-
-element-copy-out-e : tie.Need-element-copy-out-e Inv-loop μ-loop
-element-copy-out-e c = search needs
-
-same-target-requires : tie.Need-same-target-requires Inv-loop μ-loop
-same-target-requires c κs = search needs
 
 returns : tie.Need-returns Inv-loop μ-loop
 returns c =
@@ -37,12 +25,6 @@ returns c =
     let ds = c .before .before .before .before .before .before .args .t1 in
     let e : length (ds .entry) ≡ 1024 = search (needs, length-mapped) in
     sym (passed-here ds _ (l .i) _ e (omega arith) (l .inv .1) (sym (c .before .same-target .ensures) ∙ c .if1 .taken))
-
-add-i : tie.Need-add-i Inv-loop μ-loop
-add-i c = search needs
-
-loop-less : tie.Need-loop-less Inv-loop μ-loop
-loop-less c = search needs
 
 loop-again : tie.Need-loop-again Inv-loop μ-loop
 loop-again c =
@@ -61,16 +43,5 @@ returns-2 c =
 pub dest-place-spec : {M : Type 1} → statement M
 dest-place-spec =
     tie.close
-    (tie.spec
-    Inv-loop
-    μ-loop
-    dest-count-requires
-    loop-holds
-    mul-e
-    element-copy-out-e
-    same-target-requires
-    returns
-    add-i
-    loop-less
-    loop-again
-    returns-2)
+    (tie.spec Inv-loop μ-loop (λ c κs. search needs) loop-holds (λ c. search needs) (λ c. search needs)
+    (λ c κs. search needs) returns (λ c. search needs) (λ c. search needs) loop-again returns-2)
