@@ -1,7 +1,8 @@
 // The hash of an engine's outputs: FNV-1a of 64 bits over the bits of each number, least significant byte first.
 // Destinations come in order; of one at audio rate every frame, of one at control rate the end of every chunk; of each
-// of these every voice.
+// of these every voice, or the one number of a global destination.
 use engine::Engine;
+use state::Output;
 
 // the hash after a byte
 fn after_byte(h: u64, b: u64) -> u64 {
@@ -44,9 +45,20 @@ fn after_rows(start: u64, rows: &[f32], width: usize, voices: usize) -> u64 {
     h
 }
 
+// the width of a destination's rows
+fn width_of(output: Output) -> usize {
+    match output {
+        Output::Audio { width } => width,
+        Output::Control { width, chunks: _ } => width,
+        Output::Refused(_) => 0,
+        Output::Unmodulated => 0,
+    }
+}
+
 // the hash after a destination: it has rows at one of the two rates
 fn after_dest(h: u64, e: Engine, d: usize, voices: usize, values: &[f32], audio: &[f32]) -> u64 {
-    let width = e.stride();
+    let output = e.output(values, audio, d);
+    let width = width_of(output);
     let mut code = 0u8;
     let a = after_rows(h, e.audio_part(audio, d, &mut code), width, voices);
     after_rows(a, e.to_part(values, d, &mut code), width, voices)

@@ -28,7 +28,8 @@ pub const SIGNALS: usize = 64;
 
 // How many routes into how many destinations, which are at audio rate or at control rate; whether routes have curves,
 // slews and an aux, and destinations feed; voices there are, and voices that sound; frames of a block, and buffers that
-// the signals share; which call is made (1 `set_base`, 2 `set_held`, 3 `note_on`), how often, and how many blocks then.
+// the signals share; which call is made (1 `set_base`, 2 `set_held`, 3 `note_on`), how often, and how many blocks then;
+// what else is so, one of the numbers below.
 pub struct Scene {
     pub slots: usize,
     pub dests: usize,
@@ -41,7 +42,21 @@ pub struct Scene {
     pub call: usize,
     pub calls: usize,
     pub blocks: usize,
+    pub also: usize,
 }
+
+// ---- what else is so of a scenario; 0 where nothing is
+
+// of rich slots every other one is plain
+const EVERY_OTHER: usize = 1;
+// sources 2 and 3 are velocity and key, and both glide in every voice
+pub const GLIDES: usize = 2;
+// a note starts before every block
+pub const NOTES: usize = 3;
+// destinations are global
+const GLOBAL: usize = 4;
+// a preset with slots of all kinds: its own sources, destinations and slots
+const PRESET: usize = 5;
 
 // What a scenario's program is compiled of, and the first refusal.
 pub struct Gathered {
@@ -100,6 +115,7 @@ pub fn of_numbers(xs: &[usize]) -> Scene {
     let call = entry(xs, 8, 3);
     let calls = entry(xs, 9, 4294967296);
     let blocks = entry(xs, 10, 4294967296);
+    let also = entry(xs, 11, PRESET);
     Scene {
         slots,
         dests,
@@ -112,6 +128,7 @@ pub fn of_numbers(xs: &[usize]) -> Scene {
         call,
         calls,
         blocks,
+        also,
     }
 }
 
@@ -125,39 +142,112 @@ fn config_of(s: Scene) -> Config {
 
 // ---- sources: signals per voice; the last four are held in a rich scenario
 
-fn kind_of(i: usize, rich: bool) -> Kind {
-    if rich && SIGNALS - 4 <= i {
+fn preset_kind(i: usize) -> Kind {
+    match i {
+        4 | 5 => Kind::Held,
+        6 => Kind::Velocity,
+        7 => Kind::Key,
+        8 => Kind::Random,
+        9 => Kind::RandomPerRoute,
+        10 => Kind::Constant,
+        _ => Kind::Signal,
+    }
+}
+
+fn glide_kind(i: usize) -> Kind {
+    match i {
+        2 => Kind::Velocity,
+        3 => Kind::Key,
+        _ => Kind::Signal,
+    }
+}
+
+fn kind_of(i: usize, s: Scene) -> Kind {
+    if s.also == PRESET {
+        return preset_kind(i);
+    }
+    if s.also == GLIDES {
+        return glide_kind(i);
+    }
+    if s.rich && SIGNALS - 4 <= i {
         return Kind::Held;
     }
     Kind::Signal
 }
 
-fn with_source(s: Sources, i: usize, rich: bool) -> Named {
+// whether source i is global: of a preset a signal and two that are held
+fn is_global(i: usize, s: Scene) -> bool {
+    s.also == PRESET && 3 <= i && i <= 5
+}
+
+fn source_scope(i: usize, s: Scene) -> Scope {
+    if is_global(i, s) {
+        return Scope::Global;
+    }
+    Scope::Voice
+}
+
+fn range_of(i: usize, s: Scene) -> Range {
+    if s.also == PRESET && i == 0 {
+        return Range::Bipolar;
+    }
+    Range::Unipolar
+}
+
+fn with_source(from: Sources, i: usize, s: Scene) -> Named {
     let key = [(i % SOURCES) as u8];
-    let a = source::add(s, &key, kind_of(i, rich), Scope::Voice, Range::Unipolar);
+    let a = source::add(
+        from,
+        &key,
+        kind_of(i, s),
+        source_scope(i, s),
+        range_of(i, s),
+    );
     let code = a.code;
     let sources = a.sources;
     Named { code, sources }
 }
 
-fn sources_of(rich: bool) -> Named {
-    let mut s = source::new();
+fn sources_of(s: Scene) -> Named {
+    let mut sources = source::new();
     let mut code = 0u8;
     let mut i = 0usize;
     while i < SIGNALS {
-        let a = with_source(s, i, rich);
+        let a = with_source(sources, i, s);
         code = first(code, a.code);
         let next = a.sources;
-        s = next;
+        sources = next;
         i += 1;
     }
-    Named { code, sources: s }
+    Named { code, sources }
 }
 
-// ---- destinations, per voice, from -1 to 1
+// ---- destinations, from -1 to 1; per voice, unless all are global, or it is one of two of a preset
 
-fn rate_of(audio: bool) -> Rate {
-    if audio {
+fn dest_scope(d: usize, s: Scene) -> Scope {
+    if s.also == GLOBAL {
+        return Scope::Global;
+    }
+    if s.also == PRESET && (d == 3 || d == 7) {
+        return Scope::Global;
+    }
+    Scope::Voice
+}
+
+// of a preset two are at audio rate and the last goes by what reaches it
+fn preset_rate(d: usize) -> Rate {
+    match d {
+        0 | 1 => Rate::Audio,
+        9 => Rate::Adaptive,
+        _ => Rate::Control,
+    }
+}
+
+fn rate_of(d: usize, s: Scene) -> Rate {
+    if s.also == PRESET {
+        return preset_rate(d);
+    }
+    if s.audio {
         return Rate::Audio;
     }
     Rate::Control
@@ -165,53 +255,56 @@ fn rate_of(audio: bool) -> Rate {
 
 // in a rich scenario 12 feeds a source that is read on the way to 14, 14 the output of a slot of 6, 15 a source that is
 // read on the way to 13, and 13 the amount of a slot of 5
-fn feed_of(d: usize, rich: bool) -> Feed {
-    if !rich {
-        return Feed::Nothing;
+fn rich_feed(d: usize) -> Feed {
+    match d {
+        12 => Feed::Source(62),
+        13 => Feed::Amount(5),
+        14 => Feed::Output(6),
+        15 => Feed::Source(61),
+        _ => Feed::Nothing,
     }
-    if d == 12 {
-        return Feed::Source(62);
+}
+
+// of a preset 7 feeds the amount of slot 0
+fn feed_of(d: usize, s: Scene) -> Feed {
+    if s.also == PRESET && d == 7 {
+        return Feed::Amount(0);
     }
-    if d == 13 {
-        return Feed::Amount(5);
-    }
-    if d == 14 {
-        return Feed::Output(6);
-    }
-    if d == 15 {
-        return Feed::Source(61);
+    if s.rich {
+        return rich_feed(d);
     }
     Feed::Nothing
 }
 
-fn with_dest(s: Destinations, d: usize, audio: bool, rich: bool) -> Reached {
+fn with_dest(from: Destinations, d: usize, s: Scene) -> Reached {
     let target = Target::Param((d % DESTINATIONS) as u32);
     let a = dest::add(
-        s,
+        from,
         target,
-        Scope::Voice,
-        rate_of(audio),
+        dest_scope(d, s),
+        rate_of(d, s),
         -1.0,
         1.0,
-        feed_of(d, rich),
+        feed_of(d, s),
     );
     let code = a.code;
     let dests = a.dests;
     Reached { code, dests }
 }
 
-fn dests_of(n: usize, audio: bool, rich: bool) -> Reached {
-    let mut s = dest::new();
+fn dests_of(s: Scene) -> Reached {
+    let n = s.dests;
+    let mut dests = dest::new();
     let mut code = 0u8;
     let mut d = 0usize;
     while d < n {
-        let a = with_dest(s, d, audio, rich);
+        let a = with_dest(dests, d, s);
         code = first(code, a.code);
         let next = a.dests;
-        s = next;
+        dests = next;
         d += 1;
     }
-    Reached { code, dests: s }
+    Reached { code, dests }
 }
 
 // ---- the matrix: slot n goes from source n to destination n modulo their number
@@ -274,19 +367,84 @@ fn rich_slot(n: usize, dests: usize) -> Slot {
     }
 }
 
-fn slot_of(n: usize, dests: usize, rich: bool) -> Slot {
-    if rich {
-        return rich_slot(n, dests);
+// ---- the slots of a preset
+
+const PRESET_SLOTS: usize = 12;
+
+const PRESET_SOURCE: [usize; PRESET_SLOTS] = [0, 1, 6, 7, 5, 8, 9, 2, 3, 0, 10, 4];
+
+const PRESET_DEST: [usize; PRESET_SLOTS] = [0, 1, 2, 1, 3, 4, 5, 6, 1, 8, 9, 7];
+
+// which slots have an aux: 0 that of the wheel, 7 and 9 that of velocity
+fn preset_aux(n: usize) -> Pick {
+    match n {
+        0 => Pick::Source(4),
+        7 | 9 => Pick::Source(6),
+        _ => Pick::Nothing,
     }
-    plain_slot(n, dests)
 }
 
-fn matrix_of(slots: usize, dests: usize, rich: bool) -> Edited {
+// which have a table, and of these which a slew
+fn preset_curve(n: usize) -> Curve {
+    match n {
+        2 => Curve::Table {
+            rise: 0.0,
+            fall: 0.0,
+        },
+        7 | 9 => Curve::Table {
+            rise: 0.05,
+            fall: 0.01,
+        },
+        _ => Curve::Linear,
+    }
+}
+
+fn preset_slot(n: usize) -> Slot {
+    let i = n % PRESET_SLOTS;
+    let plain = plain_slot(i, SLOTS);
+    let d = PRESET_DEST[i];
+    let destination = Aim::At(target_of(d, SLOTS));
+    let polarity = polarity_of(i);
+    let source_curve = preset_curve(i);
+    Slot {
+        source: Pick::Source(PRESET_SOURCE[i]),
+        source_curve,
+        amount: plain.amount,
+        polarity,
+        destination,
+        aux: preset_aux(i),
+        aux_invert: i == 9,
+        aux_curve: Curve::Linear,
+        output: 1.0,
+        bypass: false,
+    }
+}
+
+// whether slot n has curves, slews and an aux
+fn is_rich(n: usize, s: Scene) -> bool {
+    if s.also == EVERY_OTHER {
+        return s.rich && n % 2 == 0;
+    }
+    s.rich
+}
+
+fn slot_of(n: usize, s: Scene) -> Slot {
+    if s.also == PRESET {
+        return preset_slot(n);
+    }
+    if is_rich(n, s) {
+        return rich_slot(n, s.dests);
+    }
+    plain_slot(n, s.dests)
+}
+
+fn matrix_of(s: Scene) -> Edited {
+    let slots = s.slots;
     let mut m = matrix::new();
     let mut code = 0u8;
     let mut n = 0usize;
     while n < slots {
-        let e = matrix::set_slot(m, n, slot_of(n, dests, rich));
+        let e = matrix::set_slot(m, n, slot_of(n, s));
         code = first(code, e.code);
         let next = e.matrix;
         m = next;
@@ -295,14 +453,19 @@ fn matrix_of(slots: usize, dests: usize, rich: bool) -> Edited {
     Edited { code, matrix: m }
 }
 
+// whether note values glide, and a legato note sets its velocity
+fn with_glides(m: Matrix, on: bool) -> Matrix {
+    matrix::set_velocity_legato(matrix::set_glide(m, on), on)
+}
+
 // The scenario's registries, matrix and configuration.
 pub fn gather(s: Scene) -> Gathered {
-    let rich = s.rich;
-    let n = sources_of(rich);
-    let d = dests_of(s.dests, s.audio, rich);
-    let m = matrix_of(s.slots, s.dests, rich);
+    let n = sources_of(s);
+    let d = dests_of(s);
+    let m = matrix_of(s);
     let code = first(n.code, first(d.code, m.code));
-    let matrix = m.matrix;
+    let slots = m.matrix;
+    let matrix = with_glides(slots, s.also == GLIDES);
     let sources = n.sources;
     let dests = d.dests;
     let config = config_of(s);
@@ -315,7 +478,8 @@ pub fn gather(s: Scene) -> Gathered {
     Gathered { code, wiring }
 }
 
-// ---- signals: source i has buffer i modulo their number, a number for each frame and voice
+// ---- signals: source i has buffer i modulo their number, a number for each frame and voice; a global one takes a
+// number a frame
 
 fn product(a: usize, b: usize) -> usize {
     draw::wrapping_mul(a as u64, b as u64) as usize
@@ -329,6 +493,14 @@ fn buffer_at(i: usize, buffers: usize, len: usize) -> usize {
     product(i % buffers, len)
 }
 
+// numbers of a frame
+fn width_of(i: usize, s: Scene) -> usize {
+    if is_global(i, s) {
+        return 1;
+    }
+    s.voices
+}
+
 // The scenario's signals.
 pub fn signals_of(s: Scene) -> Bound {
     let voices = s.voices;
@@ -338,7 +510,7 @@ pub fn signals_of(s: Scene) -> Bound {
     let mut code = 0u8;
     let mut i = 0usize;
     while i < SIGNALS {
-        let b = engine::bind(bound, i, buffer_at(i, buffers, len), len, voices);
+        let b = engine::bind(bound, i, buffer_at(i, buffers, len), len, width_of(i, s));
         code = first(code, b.code);
         let next = b.signals;
         bound = next;

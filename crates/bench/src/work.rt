@@ -1,7 +1,9 @@
 // An engine made by a scenario, and the calls that are timed.
 use crate::hash;
 use crate::scene;
+use crate::scene::GLIDES;
 use crate::scene::Gathered;
+use crate::scene::NOTES;
 use crate::scene::SIGNALS;
 use crate::scene::Scene;
 use crate::scene::first;
@@ -72,7 +74,28 @@ fn wired(
     set_bases(e, calls, bases, samples)
 }
 
-// with its voices sounding
+// every voice goes from its note to another, which it takes a thousand seconds to reach
+fn gliding(from: Done, voices: usize, held: &mut [f32], tables: &[f32]) -> Done {
+    let note = NoteOn {
+        key: 72.0,
+        velocity: 0.0,
+        legato: true,
+        glide_seconds: 1000.0,
+    };
+    note_ons(from, 0, voices, note, held, tables)
+}
+
+// with the scenario's voices sounding
+fn sounding(from: Done, s: Scene, held: &mut [f32], tables: &[f32]) -> Done {
+    let voices = s.active;
+    let d = note_ons(from, 0, voices, NoteOn::new(60.0, 1.0), held, tables);
+    if s.also == GLIDES {
+        return gliding(d, voices, held, tables);
+    }
+    d
+}
+
+// a new engine with its voices sounding
 fn started(
     s: Scene,
     g: Gathered,
@@ -84,7 +107,7 @@ fn started(
     samples: &[f32],
 ) -> Done {
     let e = wired(g, c, s.dests, held, globals, bases, samples);
-    note_ons(e, s.active, held, tables)
+    sounding(e, s, held, tables)
 }
 
 // An engine with the scenario's program, its bases set and its voices sounding.
@@ -105,13 +128,26 @@ pub fn ready(
     started(s, g, c, held, globals, bases, tables, samples)
 }
 
+// voice i after a first one, round the voices that there may be
+fn voice_after(start: usize, i: usize) -> usize {
+    (start % VOICES + i % VOICES) % VOICES
+}
+
 // calls of `note_on`, one voice after the other
-fn note_ons(from: Done, calls: usize, held: &mut [f32], tables: &[f32]) -> Done {
+fn note_ons(
+    from: Done,
+    start: usize,
+    calls: usize,
+    note: NoteOn,
+    held: &mut [f32],
+    tables: &[f32],
+) -> Done {
     let mut code = from.code;
     let mut e = from.engine;
     let mut i = 0usize;
     while i < calls {
-        let d = e.note_on(held, tables, i % VOICES, NoteOn::new(60.0, 1.0));
+        let voice = voice_after(start, i);
+        let d = e.note_on(held, tables, voice, note);
         code = first(code, d.code);
         let next = d.engine;
         e = next;
@@ -194,6 +230,134 @@ fn blocks(
     Done { code, engine: e }
 }
 
+// the voice of the note before a block, so many being left
+fn voice_of(left: usize, active: usize) -> usize {
+    if active == 0 {
+        return 0;
+    }
+    left % active
+}
+
+// a note on a voice, then a block
+fn noted_block(
+    engine: Engine,
+    voice: usize,
+    frames: usize,
+    signals: Signals,
+    held: &mut [f32],
+    globals: &mut [f32],
+    bases: &[f32],
+    values: &mut [f32],
+    audio: &mut [f32],
+    tables: &[f32],
+    samples: &[f32],
+) -> Done {
+    let before = Done { code: 0, engine };
+    let a = note_ons(before, voice, 1, NoteOn::new(60.0, 1.0), held, tables);
+    let e = a.engine;
+    let d = blocks(
+        e,
+        1,
+        frames,
+        signals,
+        held,
+        globals,
+        bases,
+        values,
+        audio,
+        tables,
+        samples,
+    );
+    let next = d.engine;
+    Done {
+        code: first(a.code, d.code),
+        engine: next,
+    }
+}
+
+// blocks, a note before each
+fn noted_blocks(
+    engine: Engine,
+    s: Scene,
+    signals: Signals,
+    held: &mut [f32],
+    globals: &mut [f32],
+    bases: &[f32],
+    values: &mut [f32],
+    audio: &mut [f32],
+    tables: &[f32],
+    samples: &[f32],
+) -> Done {
+    let active = s.active;
+    let frames = s.frames;
+    let mut code = 0u8;
+    let mut e = engine;
+    let mut left = s.blocks;
+    while 0 < left {
+        let voice = voice_of(left, active);
+        let d = noted_block(
+            e,
+            voice,
+            frames,
+            signals,
+            held,
+            globals,
+            bases,
+            values,
+            audio,
+            tables,
+            samples,
+        );
+        code = first(code, d.code);
+        let next = d.engine;
+        e = next;
+        left -= 1;
+    }
+    Done { code, engine: e }
+}
+
+// the scenario's blocks
+fn all_blocks(
+    engine: Engine,
+    s: Scene,
+    signals: Signals,
+    held: &mut [f32],
+    globals: &mut [f32],
+    bases: &[f32],
+    values: &mut [f32],
+    audio: &mut [f32],
+    tables: &[f32],
+    samples: &[f32],
+) -> Done {
+    if s.also == NOTES {
+        return noted_blocks(
+            engine,
+            s,
+            signals,
+            held,
+            globals,
+            bases,
+            values,
+            audio,
+            tables,
+            samples,
+        );
+    }
+    blocks(
+        engine,
+        s.blocks,
+        s.frames,
+        signals,
+        held,
+        globals,
+        bases,
+        values,
+        audio,
+        tables,
+        samples,
+    )
+}
+
 // the scenario's calls
 fn called(
     from: Done,
@@ -211,7 +375,7 @@ fn called(
         return set_helds(from, s.calls, held, globals, samples);
     }
     if s.call == 3 {
-        return note_ons(from, s.calls, held, tables);
+        return note_ons(from, 0, s.calls, NoteOn::new(60.0, 1.0), held, tables);
     }
     from
 }
@@ -232,12 +396,9 @@ fn finished(
     let b = scene::signals_of(s);
     let signals = b.signals;
     let e = from.engine;
-    let n = s.blocks;
-    let frames = s.frames;
-    let d = blocks(
+    let d = all_blocks(
         e,
-        n,
-        frames,
+        s,
         signals,
         held,
         globals,

@@ -5,7 +5,7 @@ use mathlib.Core.Bool.{Bool, true, false, cond, _&&_}
 use mathlib.Core.List.{List}
 use Prim.Native.Nat.{ℕ, zero, suc, _+_, _-_, _*_, _%_, _≤_, _<_, min}
 use native.Mathlib.Omega.{arith}
-use borrow.Author.Tests.{ne-eqb}
+use borrow.Author.Tests.{ne-eqb, lt-ltb, le-ltb}
 use lib.Dec.{eqb}
 use lib.Ieee.{Float}
 use Rattle.config.specs.Sizes.{slots, mostChunks, period}
@@ -31,7 +31,7 @@ use Rattle.block_opening.proofs.Codes.{accepted}
 use Rattle.block_opening.proofs.Worlds.{loaded-by-parts, drawn-by-parts}
 use Rattle.block.specs.Room.{Room, Keeps}
 use Rattle.block.specs.Scenes.{drawnOf}
-use Rattle.block.specs.Worlds.{loadedWorld, drawnWorld, closedWorld, routelessWorld, steppedWorld, routedWorld, runWorld}
+use Rattle.block.specs.Worlds.{loadedWorld, drawnWorld, closedWorld, routelessWorld, steppedWorld, routedWorld, runWorld, answeredWorld}
 use Rattle.block.proofs.Steps.{sources-kept, values-kept, audio-kept, chunks-kept, frames-kept}
 
 -- ---- the chunks of a block
@@ -142,6 +142,19 @@ module _ (samples : List Float) (signals : Signals) (start end : ℕ) (w : World
   run-some e o f =
       let no : eqb (routeTotal (w .state .program)) 0 ≡ false = ne-eqb (routeTotal (w .state .program)) 0 (λ z. e (omega arith)) in
       f ∙ rw no
+
+  pub answered-refused : (code : ℕ) → code ≢ 0 → w ≡ answeredWorld code samples signals start end w
+  unfolding answeredWorld
+  answered-refused code n = rw (ne-eqb code 0 n)
+
+  pub answered-empty : (code : ℕ) → code ≡ 0 → end ≤ start → w ≡ answeredWorld code samples signals start end w
+  unfolding answeredWorld
+  answered-empty code z n = rw (z, le-ltb start end n)
+
+  pub answered-run : (code : ℕ) → code ≡ 0 → start < end → (o : World) → o ≡ runWorld samples signals start end w
+      → o ≡ answeredWorld code samples signals start end w
+  unfolding answeredWorld
+  answered-run code z n o e = e ∙ rw (z, lt-ltb start end n)
 
   pub run-is : runWorld samples signals start end w ≡ overRange samples signals start end w
   unfolding runWorld routelessWorld routedWorld steppedWorld closedWorld drawnWorld loadedWorld

@@ -1,3 +1,4 @@
 pub mod Steps
 pub mod Blocks
 pub mod Moves
+pub mod Rests

@@ -1,8 +1,8 @@
 -- The parts of a block, of a world, each under a name that stands for itself; proofs/Blocks says that they are model's. Definitions only.
-use mathlib.Core.Bool.{cond}
+use mathlib.Core.Bool.{cond, _&&_}
 use mathlib.Core.List.{List}
 use Prim.Native.Nat.{ℕ, _-_}
-use lib.Dec.{eqb}
+use lib.Dec.{eqb, ltb}
 use lib.Ieee.{Float}
 use Rattle.state.specs.declared.Block.{Block}
 use Rattle.state.specs.declared.Signals.{Signals}
@@ -33,3 +33,7 @@ routedWorld samples signals start end w = steppedWorld samples signals (blockOf 
 unfoldable pub runWorld : List Float → Signals → ℕ → ℕ → World → World
 runWorld samples signals start end w =
     cond (eqb (routeTotal (w .state .program)) 0) (routelessWorld (end - start) w) (routedWorld samples signals start end w)
+
+-- a call with that number: a refused one, and an empty range, change nothing
+unfoldable pub answeredWorld : ℕ → List Float → Signals → ℕ → ℕ → World → World
+answeredWorld code samples signals start end w = cond (eqb code 0 && ltb start end) (runWorld samples signals start end w) w

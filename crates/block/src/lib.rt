@@ -25,6 +25,8 @@ ghost use Rattle.block_opening.specs.Codes.{countsOf, codeBy};
 ghost use Rattle.block_opening.specs.Draws.{drawnRoutes};
 ghost use Rattle.block.specs.Room.{Room, Keeps, audioSize};
 ghost use Rattle.block.specs.Worlds.{loadedWorld, drawnWorld, closedWorld, routelessWorld, routedWorld, runWorld};
+ghost use Rattle.block.specs.Worlds.{answeredWorld};
+ghost use Rattle.block.specs.Smalls.{smallOf, withSmall};
 ghost use Rattle.block.specs.Scenes.{sceneOf, workOf, drawnOf};
 ghost use Rattle.block.specs.Moves.{movingOf, movedBy, glidesOf, wholeOf};
 use audio_rows::Sweeping;
@@ -43,6 +45,7 @@ use state::Chunk;
 use state::Signals;
 use state::SourceMark;
 use state::State;
+use voice::Marks;
 use voice::Notes;
 
 // ---- a chunk
@@ -636,6 +639,36 @@ pub fn closed(state: State, block: Block, len: usize) -> State
 
 // ---- the block
 
+// All that a block moves of a state.
+pub struct Small {
+    pub primed: bool,
+    pub draw: u64,
+    pub phase: usize,
+    pub velocity: Notes,
+    pub key: Notes,
+    pub marks: Marks,
+    pub block: Block,
+}
+
+// what it moves, as it stands
+fn small_of(state: State) -> Small
+    ensures { λ r. ⌜ r ≡ smallOf state ⌝ }
+{
+    let velocity = state.velocity;
+    let key = state.key;
+    let marks = state.marks;
+    let block = state.block;
+    Small {
+        primed: state.primed,
+        draw: state.draw,
+        phase: state.phase,
+        velocity,
+        key,
+        marks,
+        block,
+    }
+}
+
 fn block_of(state: State, start: usize, end: usize) -> Block
     ensures { λ r. ⌜ r ≡ blockOf state start end ⌝ }
 {
@@ -659,28 +692,32 @@ fn no_block() -> Block
     }
 }
 
-// the state after a block of so many frames without routes, once the notes have moved
-fn quiet(state: State, velocity: Notes, key: Notes, len: usize) -> State
-    ensures { λ r. ⌜ ((h g a v b t : List Float) → worldOf r h g a v b t ≡ closedWorld noBlock len (worldOf (withKey (withVelocity state velocity) key) h g a v b t)) ⌝ }
+// what has moved after a block of so many frames without routes, once the notes have
+fn quiet(state: State, velocity: Notes, key: Notes, len: usize) -> Small
+    ensures { λ r. ⌜ ((h g a v b t : List Float) → worldOf (withSmall state r) h g a v b t
+        ≡ closedWorld noBlock len (worldOf (withKey (withVelocity state velocity) key) h g a v b t)) ⌝ }
 {
     let phase = state.phase % PERIOD;
     let moved = (phase + len % PERIOD) % PERIOD;
     let marks = state.marks;
     let cleared = marks.cleared();
     let block = no_block();
-    let mut next = state;
-    next.velocity = velocity;
-    next.key = key;
-    next.phase = moved;
-    next.marks = cleared;
-    next.block = block;
-    next
+    Small {
+        primed: state.primed,
+        draw: state.draw,
+        phase: moved,
+        velocity,
+        key,
+        marks: cleared,
+        block,
+    }
 }
 
 // A block of so many frames without routes.
-pub fn routeless(held: &mut [f32], state: State, len: usize) -> State
+pub fn routeless(held: &mut [f32], state: State, len: usize) -> Small
     requires { ⌜ strideOf state * engineSources state ≤ length (now held) ⌝ }
-    ensures { λ r. ⌜ ((g a v b t : List Float) → worldOf r (now (held .exit)) g a v b t ≡ routelessWorld len (worldOf state (now (held .entry)) g a v b t)) ⌝ }
+    ensures { λ r. ⌜ ((g a v b t : List Float) → worldOf (withSmall state r) (now (held .exit)) g a v b t
+        ≡ routelessWorld len (worldOf state (now (held .entry)) g a v b t)) ⌝ }
 {
     let config = state.config;
     let mark = state.mark;
@@ -750,7 +787,7 @@ pub fn routed(
 }
 
 // A block of a nonempty range.
-pub fn run(
+fn run(
     state: State,
     held: &mut [f32],
     globals: &mut [f32],
@@ -762,15 +799,64 @@ pub fn run(
     signals: Signals,
     start: usize,
     end: usize,
-) -> State
-    requires { ⌜ Room state (length (now held)) (length (now values)) (length (now audio)) × (engineSources state ≤ length (now globals)) × (start < end) × (end ≤ frameCount state) ⌝ }
-    ensures { λ r. ⌜ worldOf r (now (held .exit)) (now (globals .exit)) (now (bases .entry)) (now (values .exit)) (now (audio .exit)) (now (tables .entry)) ≡ runWorld (now (samples .entry)) signals start end (worldOf state (now (held .entry)) (now (globals .entry)) (now (bases .entry)) (now (values .entry)) (now (audio .entry)) (now (tables .entry))) ⌝ }
+) -> Small
+    requires { ⌜ Room state (length (now held)) (length (now values)) (length (now audio))
+        × (engineSources state ≤ length (now globals)) × (start < end) × (end ≤ frameCount state) ⌝ }
+    ensures { λ r. ⌜ worldOf (withSmall state r) (now (held .exit)) (now (globals .exit)) (now (bases .entry))
+        (now (values .exit)) (now (audio .exit)) (now (tables .entry))
+        ≡ runWorld (now (samples .entry)) signals start end (worldOf state (now (held .entry)) (now (globals .entry))
+        (now (bases .entry)) (now (values .entry)) (now (audio .entry)) (now (tables .entry))) ⌝ }
 {
     let program = state.program;
     if program.routes == 0 {
         return routeless(held, state, end - start);
     }
-    routed(
+    let next = routed(
+        state,
+        held,
+        globals,
+        bases,
+        values,
+        audio,
+        tables,
+        samples,
+        signals,
+        start,
+        end,
+    );
+    small_of(next)
+}
+
+// What has moved of the state once a call with that number is answered: a refused one and an empty range move nothing.
+pub fn answered(
+    code: u8,
+    state: State,
+    held: &mut [f32],
+    globals: &mut [f32],
+    bases: &[f32],
+    values: &mut [f32],
+    audio: &mut [f32],
+    tables: &[f32],
+    samples: &[f32],
+    signals: Signals,
+    start: usize,
+    end: usize,
+) -> Small
+    requires { ⌜ (code ≡ 0 → Room state (length (now held)) (length (now values)) (length (now audio))
+        × (engineSources state ≤ length (now globals)) × (end ≤ frameCount state)) ⌝ }
+    ensures { λ r. ⌜ worldOf (withSmall state r) (now (held .exit)) (now (globals .exit)) (now (bases .entry))
+        (now (values .exit)) (now (audio .exit)) (now (tables .entry))
+        ≡ answeredWorld code (now (samples .entry)) signals start end (worldOf state (now (held .entry))
+        (now (globals .entry)) (now (bases .entry)) (now (values .entry)) (now (audio .entry))
+        (now (tables .entry))) ⌝ }
+{
+    if code != 0 {
+        return small_of(state);
+    }
+    if end <= start {
+        return small_of(state);
+    }
+    run(
         state,
         held,
         globals,

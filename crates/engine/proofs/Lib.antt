@@ -1,3 +1,4 @@
+pub mod ByNumber
 pub mod SettingDone
 pub mod SettingNew
 pub mod NotingCalls

@@ -1,12 +1,11 @@
 -- What the note calls answer, from what their helpers ensure. Assumes nothing.
 use mathlib.Core.Path.{_≡_, refl, sym, ap, _∙_}
-use mathlib.Core.Logic.{_≢_}
-use mathlib.Core.Bool.{Bool, true, false, not, _||_}
+use mathlib.Core.Bool.{Bool, true, false, cond, not, _||_}
 use mathlib.Core.List.{List, [], _∷_}
 use Prim.Native.Nat.{ℕ, _<_, min}
 use native.Mathlib.Omega.{arith}
 use borrow.Author.Tests.{leb-false}
-use lib.Dec.{leb, ltb}
+use lib.Dec.{eqb, leb, ltb}
 use lib.ListN.{length}
 use lib.Ieee.{Float}
 use Rattle.config.specs.Sizes.{mostVoices}
@@ -17,16 +16,17 @@ use Rattle.state.specs.declared.Flag.{Flag}
 use Rattle.state.specs.declared.State.{State}
 use Rattle.model.specs.Counts.{voiceCount}
 use Rattle.model.specs.World.{World, worldOf}
-use Rattle.model.specs.States.{putState, putHeld}
+use Rattle.model.specs.States.{withVoices, withMarks, withVelocity, withKey, putState, putHeld}
 use Rattle.model.specs.Process.{tablesNeedOf}
 use Rattle.model.specs.Settings.{Done, heldShort}
 use Rattle.model.specs.NoteCalls.{Note, noteFinite, noteOnRows, noteOn, notedOn, noteOffRows, noteOff, releasedTo, voiceEndedRows, voiceEnded, ended, isActive}
 use Rattle.engine_notes.specs.declared.Lane.{Lane}
 use Rattle.engine_notes.specs.declared.Setting.{Setting}
-use Rattle.engine_notes.specs.Noting.{Inside, heldIn, soundOn, heldOn}
+use Rattle.engine_notes.specs.declared.Sounding.{Sounding}
+use Rattle.engine_notes.specs.Noting.{Inside, heldIn, soundOn, heldOn, soundEnded}
 use Rattle.engine_notes.specs.Parts.{laneIn, soundingOf, stateWith, settingOf}
 use Rattle.engine_notes.proofs.Whole.{noted-is, release-is, releaseWorld}
-use Rattle.engine_notes.proofs.Answers.{refused, accepted}
+use Rattle.engine.proofs.ByNumber.{done-code, done-part, done-kept}
 
 -- where the first row does not apply
 first-passed : (a : Bool) (rows : List Row) → judged (2 when a ∷ rows) ≡ 0 → a ≡ false
@@ -48,9 +48,6 @@ inside st v lane h e = rw e (record { few = omega arith; narrow = omega arith; v
 abbrev pub Left : Done → ℕ → State → List Float → Type 0
 Left d code st held = (code ≡ d .code) × ((st ≡ d .world .state) × (held ≡ d .world .held))
 
-left : (d : Done) (code : ℕ) (w : World) → d ≡ record { code = code; world = w } → Left d code (w .state) (w .held)
-left d code w e = (sym (ap (λ (x : Done). x .code) e), (sym (ap (λ (x : Done). x .world .state) e), sym (ap (λ (x : Done). x .world .held) e)))
-
 -- ---- note-on
 
 module _ (st : State) (held tables : List Float) (v : ℕ) (n : Note) where
@@ -65,23 +62,34 @@ module _ (st : State) (held tables : List Float) (v : ℕ) (n : Note) where
       (short-is : short ≡ (heldShort onWorld || ltb (length tables) (tablesNeedOf st)))
       (code-is : code ≡ judged (2 when missing ∷ 6 when not fits ∷ 14 when short ∷ []))
     where
-      on-judged : judged (noteOnRows (worldOf st held [] [] [] [] tables) v n) ≡ code
-      on-judged = sym (code-is ∙ rw (missing-is, fits-is, short-is))
+      -- what sounds by the number, or what sounded before
+      sounding-by : (b : Bool) (s : Sounding) → stateWith st (cond b s (soundingOf st)) ≡ cond b (stateWith st s) st
+      sounding-by true s = refl
+      sounding-by false s = refl
 
-      pub on-refused : code ≢ 0 → Left (noteOn (worldOf st held [] [] [] [] tables) v n) code st held
-      unfolding noteOn
-      on-refused h =
-          let u = worldOf st held [] [] [] [] tables in
-          left (noteOn u v n) code u (refused (noteOnRows u v n) u (notedOn v n u) code on-judged h)
-
-      pub on-made : code ≡ 0 → (lane : Lane) (x : Setting) (next : State) (after : List Float) → lane ≡ laneIn st v
-          → x ≡ settingOf (worldOf st held [] [] [] [] tables) n → next ≡ stateWith st (soundOn (st .mark) lane (soundingOf st) x)
-          → after ≡ heldOn (st .mark) lane (soundingOf st) x held → Left (noteOn (worldOf st held [] [] [] [] tables) v n) 0 next after
+      pub on-done : (lane : Lane) (x : Setting) (next : Sounding) (after : List Float) → lane ≡ laneIn st v
+          → x ≡ settingOf (worldOf st held [] [] [] [] tables) n → next ≡ cond (eqb code 0) (soundOn (st .mark) lane (soundingOf st) x) (soundingOf st)
+          → after ≡ cond (eqb code 0) (heldOn (st .mark) lane (soundingOf st) x held) held
+          → Left (noteOn (worldOf st held [] [] [] [] tables) v n) code (stateWith st next) after
       unfolding noteOn putState putHeld
-      on-made z lane x next after e f g h =
+      on-done lane x next after e f g h =
           let u = worldOf st held [] [] [] [] tables in
-          let d = left (noteOn u v n) 0 _ (accepted (noteOnRows u v n) u (notedOn v n u) (on-judged ∙ z) ∙ ap (λ (y : World). record { code = 0; world = y }) (noted-is v n u)) in
-          (d .0, (g ∙ rw (e, f) (d .1 .0), h ∙ rw (e, f) (d .1 .1)))
+          let rows = noteOnRows u v n in
+          let j : code ≡ judged rows = code-is ∙ rw (missing-is, fits-is, short-is) in
+          let made = notedOn v n u in
+          let s = ap (λ (y : World). y .state) (noted-is v n u) in
+          let m = ap (λ (y : World). y .held) (noted-is v n u) in (
+            done-code rows u made code j,
+            (
+              ap (stateWith st) g
+                  ∙ sounding-by (eqb code 0) (soundOn (st .mark) lane (soundingOf st) x)
+                  ∙ rw (e, f) (ap (λ (y : State). cond (eqb code 0) y st) (sym s))
+                  ∙ done-part rows u made code j (λ (y : World). y .state),
+              h
+                  ∙ rw (e, f) (ap (λ (y : List Float). cond (eqb code 0) y held) (sym m))
+                  ∙ done-part rows u made code j (λ (y : World). y .held),
+            ),
+          )
 
 -- ---- note-off
 
@@ -94,22 +102,24 @@ module _ (st : State) (held : List Float) (v : ℕ) (x : Float) where
       (short-is : short ≡ heldShort (worldOf st held [] [] [] [] []))
       (code-is : code ≡ judged (2 when missing ∷ 6 when not fits ∷ 14 when short ∷ []))
     where
-      off-judged : judged (noteOffRows (worldOf st held [] [] [] [] []) v x) ≡ code
-      off-judged = sym (code-is ∙ rw (missing-is, fits-is, short-is))
-
-      pub off-refused : code ≢ 0 → Left (noteOff (worldOf st held [] [] [] [] []) v x) code st held
-      unfolding noteOff
-      off-refused h =
-          let u = worldOf st held [] [] [] [] [] in
-          left (noteOff u v x) code u (refused (noteOffRows u v x) u (releasedTo v x u) code off-judged h)
-
-      pub off-made : code ≡ 0 → (lane : Lane) (after : List Float) → lane ≡ laneIn st v → after ≡ heldIn (st .mark) lane 3 x (lane .sources) held
-          → Left (noteOff (worldOf st held [] [] [] [] []) v x) 0 st after
+      pub off-done : (lane : Lane) (after : List Float) → lane ≡ laneIn st v → after ≡ cond (eqb code 0) (heldIn (st .mark) lane 3 x (lane .sources) held) held
+          → Left (noteOff (worldOf st held [] [] [] [] []) v x) code st after
       unfolding noteOff putHeld
-      off-made z lane after e h =
+      off-done lane after e h =
           let u = worldOf st held [] [] [] [] [] in
-          let d = left (noteOff u v x) 0 (releaseWorld v u x) (accepted (noteOffRows u v x) u (releasedTo v x u) (off-judged ∙ z) ∙ ap (λ (y : World). record { code = 0; world = y }) (release-is v u x)) in
-          (d .0, (d .1 .0, h ∙ rw e (d .1 .1)))
+          let rows = noteOffRows u v x in
+          let j : code ≡ judged rows = code-is ∙ rw (missing-is, fits-is, short-is) in
+          let made = releasedTo v x u in
+          let s = ap (λ (y : World). y .state) (release-is v u x) in
+          let m = ap (λ (y : World). y .held) (release-is v u x) in (
+            done-code rows u made code j,
+            (
+              done-kept rows u made code j (λ (y : World). y .state) s,
+              h
+                  ∙ rw e (ap (λ (y : List Float). cond (eqb code 0) y held) (sym m))
+                  ∙ done-part rows u made code j (λ (y : World). y .held),
+            ),
+          )
 
 -- ---- a voice's end
 
@@ -125,19 +135,27 @@ module _ (st : State) (held : List Float) (v : ℕ) where
       unfolding judged
       end-judged = sym (code-is ∙ rw (missing-is, short-is))
 
-      pub end-refused : code ≢ 0 → (code ≡ voiceEnded (worldOf st held [] [] [] [] []) v .code) × (st ≡ voiceEnded (worldOf st held [] [] [] [] []) v .world .state)
-      unfolding voiceEnded
-      end-refused h =
-          let u = worldOf st held [] [] [] [] [] in
-          let d = left (voiceEnded u v) code u (refused (voiceEndedRows u v) u (putState u (ended st v)) code end-judged h) in
-          (d .0, d .1 .0)
+      -- what sounds by the number, or what sounded before
+      abbrev heard : Sounding → State
+      heard s = withKey (withVelocity (withMarks (withVoices st (s .voices)) (s .marks)) (s .velocity)) (s .key)
 
-      pub end-made : code ≡ 0 → (0 ≡ voiceEnded (worldOf st held [] [] [] [] []) v .code) × (ended st v ≡ voiceEnded (worldOf st held [] [] [] [] []) v .world .state)
+      heard-by : (b : Bool) → heard (cond b (soundEnded (soundingOf st) v) (soundingOf st)) ≡ cond b (ended st v) st
+      unfolding soundEnded withVoices withMarks withVelocity withKey
+      heard-by true = refl
+      heard-by false = refl
+
+      pub end-done : (next : Sounding) → next ≡ cond (eqb code 0) (soundEnded (soundingOf st) v) (soundingOf st)
+          → (code ≡ voiceEnded (worldOf st held [] [] [] [] []) v .code)
+          × (withKey (withVelocity (withMarks (withVoices st (next .voices)) (next .marks)) (next .velocity)) (next .key)
+          ≡ voiceEnded (worldOf st held [] [] [] [] []) v .world .state)
       unfolding voiceEnded putState
-      end-made z =
+      end-done next e =
           let u = worldOf st held [] [] [] [] [] in
-          let d = left (voiceEnded u v) 0 (putState u (ended st v)) (accepted (voiceEndedRows u v) u (putState u (ended st v)) (end-judged ∙ z)) in
-          (d .0, d .1 .0)
+          let rows = voiceEndedRows u v in
+          let made = putState u (ended st v) in (
+            done-code rows u made code (sym end-judged),
+            ap heard e ∙ heard-by (eqb code 0) ∙ done-part rows u made code (sym end-judged) (λ (y : World). y .state),
+          )
 
 -- ---- whether a voice is active
 

@@ -1,10 +1,8 @@
 -- What `process` answers, from what its helpers ensure. Assumes nothing.
-use mathlib.Core.Path.{_≡_, refl, sym, ap, _∙_}
-use mathlib.Core.Logic.{_≢_}
-use mathlib.Core.Bool.{Bool, true, false, cond, _&&_}
+use mathlib.Core.Path.{_≡_, refl, ap, _∙_}
+use mathlib.Core.Bool.{Bool, cond, _&&_}
 use mathlib.Core.List.{List}
-use Prim.Native.Nat.{ℕ, _≤_, _<_}
-use borrow.Author.Tests.{lt-ltb, le-ltb, ne-eqb}
+use Prim.Native.Nat.{ℕ}
 use lib.Dec.{eqb, ltb}
 use lib.Ieee.{Float}
 use Rattle.refusal.specs.Judge.{judged}
@@ -14,7 +12,7 @@ use Rattle.model.specs.World.{World, worldOf}
 use Rattle.model.specs.Process.{Processed, processRows, overRange, process}
 use Rattle.block_opening.specs.Codes.{countsOf, lengthsOf, codeBy}
 use Rattle.block_opening.proofs.Codes.{code-of-block}
-use Rattle.block.specs.Worlds.{runWorld}
+use Rattle.block.specs.Worlds.{answeredWorld}
 use Rattle.block.proofs.Blocks.{run-is}
 
 -- what a call leaves, as its answer and the lent memories have it
@@ -45,20 +43,10 @@ module _ (st : State) (h g a v b t samples : List Float) (signals : Signals) (st
     unfolding process
     by-is k f = ap (λ (n : ℕ). by n (ltb start end)) (f ∙ e ∙ code-of-block before samples signals end)
 
-    pub process-refused : code ≢ 0 → Leaves call code st h g v b
-    process-refused n = let no : eqb code 0 ≡ false = ne-eqb code 0 n in
-        let shut : _≡_ {A = Processed} (record { code = code; world = before }) (by code (ltb start end)) = rw no in
-        leaves call code before (shut ∙ by-is code refl)
-
-    pub process-empty : code ≡ 0 → end ≤ start → Leaves call 0 st h g v b
-    process-empty z n =
-        let no : ltb start end ≡ false = le-ltb start end n in
-        let made : by 0 false ≡ call = ap (by 0) (sym no) ∙ by-is 0 (sym z) in
-        leaves call 0 before made
-
-    pub process-run : code ≡ 0 → start < end → (next : State) (h′ g′ v′ b′ : List Float) → worldOf next h′ g′ a v′ b′ t ≡ runWorld samples signals start end before
-        → Leaves call 0 next h′ g′ v′ b′
-    process-run z n next h′ g′ v′ b′ f =
-        let yes : ltb start end ≡ true = lt-ltb start end n in
-        let made : by 0 true ≡ call = ap (by 0) (sym yes) ∙ by-is 0 (sym z) in
-        leaves call 0 (worldOf next h′ g′ a v′ b′ t) (ap (λ (w : World). record { code = 0; world = w }) (f ∙ run-is samples signals start end before) ∙ made)
+    pub process-done : (next : State) (h′ g′ v′ b′ : List Float) → worldOf next h′ g′ a v′ b′ t ≡ answeredWorld code samples signals start end before
+        → Leaves call code next h′ g′ v′ b′
+    unfolding answeredWorld
+    process-done next h′ g′ v′ b′ f =
+        let made : worldOf next h′ g′ a v′ b′ t ≡ by code (ltb start end) .world =
+        f ∙ ap (λ (w : World). cond (eqb code 0 && ltb start end) w before) (run-is samples signals start end before) in
+        leaves call code (worldOf next h′ g′ a v′ b′ t) (ap (λ (w : World). record { code = code; world = w }) made ∙ by-is code refl)

@@ -1,15 +1,12 @@
 -- What each setting gives, where a row applies and where none does. Assumes nothing.
 use mathlib.Core.Path.{_≡_, refl, sym, ap, _∙_}
-use mathlib.Core.Logic.{_≢_}
 use mathlib.Core.Bool.{Bool, true, false, cond}
 use mathlib.Core.List.{List, []}
 use Prim.Native.Nat.{ℕ, _+_, _*_, min, max}
-use borrow.Author.Tests.{ne-eqb}
 use lib.Dec.{eqb}
 use lib.ListN.{length, getD, set, replicate}
 use lib.Ieee.{Float}
 use Rattle.config.specs.Sizes.{mostVoices, laneStride}
-use Rattle.refusal.specs.Judge.{Row, judged}
 use Rattle.refusal.proofs.Laws.{judged-none}
 use Rattle.list.specs.Rows.{onRow}
 use Rattle.voice.specs.Marks.{marksSwapped}
@@ -21,34 +18,14 @@ use Rattle.model.specs.Feeds.{isVoice}
 use Rattle.model.specs.World.{World, worldOf, noMark}
 use Rattle.model.specs.States.{withMarks, withGains, withLimit, withPrimed, withProgram, putState, putHeld, putGlobals, putBases}
 use Rattle.model.specs.Settings.{Done, doneBy, heldRows, heldWorld, voiceHeldRows, baseRows, gainRows, withAmount, withOutput, installed, gainsFinite, Swap, setHeld, setVoiceHeld, setBase, setAmount, setOutput, setVoiceLimit, swapProgram}
+use Rattle.engine.proofs.ByNumber.{done-code, done-part, done-kept}
 use Rattle.engine_settings.specs.Codes.{heldCode, voiceHeldCode, baseCode, gainCode, swapCode}
-
--- ---- a call by its code
-
-abbrev by : ℕ → World → World → Done
-by code w next = record { code = code; world = cond (eqb code 0) next w }
-
-module _ (rows : List Row) (w next : World) (code : ℕ) (e : code ≡ judged rows) where
-  pub refused : code ≢ 0 → doneBy rows w next ≡ record { code = code; world = w }
-  unfolding doneBy
-  refused h = ap (λ (k : ℕ). by k w next) (sym e) ∙ simp (ne-eqb code 0 h)
-
-  pub accepted : code ≡ 0 → doneBy rows w next ≡ record { code = 0; world = next }
-  unfolding doneBy
-  accepted h = ap (λ (k : ℕ). by k w next) (sym e ∙ h)
 
 -- ---- set_held
 
 module _ (st : State) (held globals : List Float) (i : ℕ) (x : Float) (code : ℕ) (e : code ≡ heldCode (st .config) (st .sources) (length held) (length globals) i x) where
   abbrev held-call : Done
   held-call = setHeld (worldOf st held globals [] [] [] []) i x
-
-  pub held-refused : code ≢ 0 → (code ≡ held-call .code) × ((st ≡ held-call .world .state) × ((held ≡ held-call .world .held) × (globals ≡ held-call .world .globals)))
-  unfolding setHeld heldCode
-  held-refused h =
-      let w = worldOf st held globals [] [] [] [] in
-      let m = sym (refused (heldRows w i x) w (heldWorld w i x) code e h) in
-      (ap (λ (d : Done). d .code) m, (ap (λ (d : Done). d .world .state) m, (ap (λ (d : Done). d .world .held) m, ap (λ (d : Done). d .world .globals) m)))
 
   -- what is written by the scope
   by-scope : (v : Bool) (s : ℕ) → World
@@ -73,20 +50,25 @@ module _ (st : State) (held globals : List Float) (i : ℕ) (x : Float) (code : 
   unfolding by-scope
   by-scope-is v s hv hs = rw (hv, hs)
 
-  pub held-set : code ≡ 0 → (v : Bool) (s : ℕ) → v ≡ isVoice (getD (st .mark) i noMark .scope) → s ≡ laneStride (min (st .config .voices) mostVoices)
-      → (held′ globals′ : List Float) → held′ ≡ cond v (onRow held s i (replicate s x)) held → globals′ ≡ cond v globals (set globals i x)
-      → (0 ≡ held-call .code) × ((st ≡ held-call .world .state) × ((held′ ≡ held-call .world .held) × (globals′ ≡ held-call .world .globals)))
+  pub held-done : (v : Bool) (s : ℕ) → v ≡ isVoice (getD (st .mark) i noMark .scope) → s ≡ laneStride (min (st .config .voices) mostVoices)
+      → (held′ globals′ : List Float) → held′ ≡ cond (eqb code 0) (cond v (onRow held s i (replicate s x)) held) held
+      → globals′ ≡ cond (eqb code 0) (cond v globals (set globals i x)) globals
+      → (code ≡ held-call .code) × ((st ≡ held-call .world .state) × ((held′ ≡ held-call .world .held) × (globals′ ≡ held-call .world .globals)))
   unfolding setHeld heldCode
-  held-set h v s hv hs held′ globals′ eh eg =
+  held-done v s hv hs held′ globals′ eh eg =
       let w = worldOf st held globals [] [] [] [] in
-      let m = sym (accepted (heldRows w i x) w (heldWorld w i x) code e h) in
+      let next = heldWorld w i x in
       let b = by-scope-is v s hv hs in (
-        ap (λ (d : Done). d .code) m,
+        done-code (heldRows w i x) w next code e,
         (
-          scope-state v s ∙ ap (λ (y : World). y .state) b ∙ ap (λ (d : Done). d .world .state) m,
+          done-kept (heldRows w i x) w next code e (λ (y : World). y .state) (sym (scope-state v s ∙ ap (λ (y : World). y .state) b)),
           (
-            eh ∙ scope-held v s ∙ ap (λ (y : World). y .held) b ∙ ap (λ (d : Done). d .world .held) m,
-            eg ∙ scope-globals v s ∙ ap (λ (y : World). y .globals) b ∙ ap (λ (d : Done). d .world .globals) m,
+            eh
+                ∙ ap (λ (m : List Float). cond (eqb code 0) m held) (scope-held v s ∙ ap (λ (y : World). y .held) b)
+                ∙ done-part (heldRows w i x) w next code e (λ (y : World). y .held),
+            eg
+                ∙ ap (λ (m : List Float). cond (eqb code 0) m globals) (scope-globals v s ∙ ap (λ (y : World). y .globals) b)
+                ∙ done-part (heldRows w i x) w next code e (λ (y : World). y .globals),
           ),
         ),
       )
@@ -97,20 +79,20 @@ module _ (st : State) (held : List Float) (i v : ℕ) (x : Float) (code : ℕ) (
   abbrev voice-call : Done
   voice-call = setVoiceHeld (worldOf st held [] [] [] [] []) i v x
 
-  pub voice-refused : code ≢ 0 → (code ≡ voice-call .code) × ((st ≡ voice-call .world .state) × (held ≡ voice-call .world .held))
-  unfolding setVoiceHeld voiceHeldCode
-  voice-refused h =
-      let w = worldOf st held [] [] [] [] [] in
-      let m = sym (refused (voiceHeldRows w i v x) w _ code e h) in
-      (ap (λ (d : Done). d .code) m, (ap (λ (d : Done). d .world .state) m, ap (λ (d : Done). d .world .held) m))
-
-  pub voice-set : code ≡ 0 → (s : ℕ) → s ≡ laneStride (min (st .config .voices) mostVoices)
-      → (0 ≡ voice-call .code) × ((st ≡ voice-call .world .state) × (set held (i * s + v) x ≡ voice-call .world .held))
+  pub voice-done : (s : ℕ) → s ≡ laneStride (min (st .config .voices) mostVoices) → (held′ : List Float) → held′ ≡ cond (eqb code 0) (set held (i * s + v) x) held
+      → (code ≡ voice-call .code) × ((st ≡ voice-call .world .state) × (held′ ≡ voice-call .world .held))
   unfolding setVoiceHeld voiceHeldCode putHeld
-  voice-set h s hs =
+  voice-done s hs held′ eh =
       let w = worldOf st held [] [] [] [] [] in
-      let m = sym (accepted (voiceHeldRows w i v x) w _ code e h) in
-      (ap (λ (d : Done). d .code) m, (ap (λ (d : Done). d .world .state) m, ap (λ (k : ℕ). set held (i * k + v) x) hs ∙ ap (λ (d : Done). d .world .held) m))
+      let next = putHeld w (set held (i * laneStride (min (st .config .voices) mostVoices) + v) x) in (
+        done-code (voiceHeldRows w i v x) w next code e,
+        (
+          done-kept (voiceHeldRows w i v x) w next code e (λ (y : World). y .state) refl,
+          eh
+              ∙ ap (λ (k : ℕ). cond (eqb code 0) (set held (i * k + v) x) held) hs
+              ∙ done-part (voiceHeldRows w i v x) w next code e (λ (y : World). y .held),
+        ),
+      )
 
 -- ---- set_base
 
@@ -118,19 +100,18 @@ module _ (st : State) (bases : List Float) (i : ℕ) (x : Float) (code : ℕ) (e
   abbrev base-call : Done
   base-call = setBase (worldOf st [] [] bases [] [] []) i x
 
-  pub base-refused : code ≢ 0 → (code ≡ base-call .code) × ((st ≡ base-call .world .state) × (bases ≡ base-call .world .bases))
-  unfolding setBase baseCode
-  base-refused h =
-      let w = worldOf st [] [] bases [] [] [] in
-      let m = sym (refused (baseRows w i x) w _ code e h) in
-      (ap (λ (d : Done). d .code) m, (ap (λ (d : Done). d .world .state) m, ap (λ (d : Done). d .world .bases) m))
-
-  pub base-set : code ≡ 0 → (0 ≡ base-call .code) × ((st ≡ base-call .world .state) × (set bases i x ≡ base-call .world .bases))
+  pub base-done : (bases′ : List Float) → bases′ ≡ cond (eqb code 0) (set bases i x) bases
+      → (code ≡ base-call .code) × ((st ≡ base-call .world .state) × (bases′ ≡ base-call .world .bases))
   unfolding setBase baseCode putBases
-  base-set h =
+  base-done bases′ eb =
       let w = worldOf st [] [] bases [] [] [] in
-      let m = sym (accepted (baseRows w i x) w _ code e h) in
-      (ap (λ (d : Done). d .code) m, (ap (λ (d : Done). d .world .state) m, ap (λ (d : Done). d .world .bases) m))
+      let next = putBases w (set bases i x) in (
+        done-code (baseRows w i x) w next code e,
+        (
+          done-kept (baseRows w i x) w next code e (λ (y : World). y .state) refl,
+          eb ∙ done-part (baseRows w i x) w next code e (λ (y : World). y .bases),
+        ),
+      )
 
 -- ---- set_amount and set_output: the same rows, with the gains that each gives
 
@@ -138,29 +119,30 @@ module _ (st : State) (i : ℕ) (x : Float) (code : ℕ) (e : code ≡ gainCode 
   abbrev bare : World
   bare = worldOf st [] [] [] [] [] []
 
-  pub amount-refused : code ≢ 0 → (code ≡ setAmount bare i x .code) × (st ≡ setAmount bare i x .world .state)
-  unfolding setAmount gainCode
-  amount-refused h =
-      let m = sym (refused (gainRows i x) bare _ code e h) in
-      (ap (λ (d : Done). d .code) m, ap (λ (d : Done). d .world .state) m)
+  -- the gains by the number, or those that were there
+  gains-by : (b : Bool) (g : Gains) → withGains st (cond b g (st .gains)) ≡ cond b (withGains st g) st
+  unfolding withGains
+  gains-by true g = refl
+  gains-by false g = refl
 
-  pub output-refused : code ≢ 0 → (code ≡ setOutput bare i x .code) × (st ≡ setOutput bare i x .world .state)
-  unfolding setOutput gainCode
-  output-refused h =
-      let m = sym (refused (gainRows i x) bare _ code e h) in
-      (ap (λ (d : Done). d .code) m, ap (λ (d : Done). d .world .state) m)
+  gains-done : (g : Gains) (y : Gains) → y ≡ cond (eqb code 0) g (st .gains)
+      → (code ≡ doneBy (gainRows i x) bare (putState bare (withGains st g)) .code) × (withGains st y ≡ doneBy (gainRows i x) bare (putState bare (withGains st g)) .world .state)
+  unfolding gainCode putState
+  gains-done g y ey =
+      let next = putState bare (withGains st g) in (
+        done-code (gainRows i x) bare next code e,
+        ap (withGains st) ey ∙ gains-by (eqb code 0) g ∙ done-part (gainRows i x) bare next code e (λ (u : World). u .state),
+      )
 
-  pub amount-set : code ≡ 0 → (g : Gains) → g ≡ withAmount (st .gains) i x → (0 ≡ setAmount bare i x .code) × (withGains st g ≡ setAmount bare i x .world .state)
-  unfolding setAmount gainCode putState
-  amount-set h g eg =
-      let m = sym (accepted (gainRows i x) bare _ code e h) in
-      (ap (λ (d : Done). d .code) m, ap (withGains st) eg ∙ ap (λ (d : Done). d .world .state) m)
+  pub amount-done : (y : Gains) → y ≡ cond (eqb code 0) (withAmount (st .gains) i x) (st .gains)
+      → (code ≡ setAmount bare i x .code) × (withGains st y ≡ setAmount bare i x .world .state)
+  unfolding setAmount
+  amount-done y ey = gains-done (withAmount (st .gains) i x) y ey
 
-  pub output-set : code ≡ 0 → (g : Gains) → g ≡ withOutput (st .gains) i x → (0 ≡ setOutput bare i x .code) × (withGains st g ≡ setOutput bare i x .world .state)
-  unfolding setOutput gainCode putState
-  output-set h g eg =
-      let m = sym (accepted (gainRows i x) bare _ code e h) in
-      (ap (λ (d : Done). d .code) m, ap (withGains st) eg ∙ ap (λ (d : Done). d .world .state) m)
+  pub output-done : (y : Gains) → y ≡ cond (eqb code 0) (withOutput (st .gains) i x) (st .gains)
+      → (code ≡ setOutput bare i x .code) × (withGains st y ≡ setOutput bare i x .world .state)
+  unfolding setOutput
+  output-done y ey = gains-done (withOutput (st .gains) i x) y ey
 
 -- ---- set_voice_limit
 
@@ -168,8 +150,8 @@ pub limit-set : (st : State) (n limit : ℕ) → limit ≡ max n 1 → (0 ≡ se
 unfolding setVoiceLimit putState
 limit-set st n limit e =
     let w = worldOf st [] [] [] [] [] [] in
-    let m = sym (accepted [] w (putState w (withLimit st (max n 1))) 0 (sym judged-none) refl) in
-    (ap (λ (d : Done). d .code) m, ap (withLimit st) e ∙ ap (λ (d : Done). d .world .state) m)
+    let next = putState w (withLimit st (max n 1)) in
+    (done-code [] w next 0 (sym judged-none), ap (withLimit st) e ∙ done-part [] w next 0 (sym judged-none) (λ (y : World). y .state))
 
 -- ---- swap
 
@@ -181,25 +163,22 @@ module _ (st : State) (p : Program) (b : Bool) (f : b ≡ gainsFinite (p .gains)
   unfolding swapProgram swapCode swap-by
   swap-is = ap swap-by (e ∙ ap (λ (z : Bool). swapCode z (st .config) (st .sources) (st .dests) (p .config) (p .sources) (p .dests) (p .routes)) f)
 
-  pub swap-refused : code ≢ 0 → (code ≡ swapProgram st p .code) × ((st ≡ swapProgram st p .state) × (p ≡ swapProgram st p .program))
-  unfolding swap-by
-  swap-refused h =
-      let no : eqb code 0 ≡ false = ne-eqb code 0 h in (
-        ap (λ (s : Swap). s .code) swap-is,
-        (
-          ap (λ (b : Bool). cond b (installed st p) st) (sym no) ∙ ap (λ (s : Swap). s .state) swap-is,
-          ap (λ (b : Bool). cond b (st .program) p) (sym no) ∙ ap (λ (s : Swap). s .program) swap-is,
-        ),
-      )
+  -- the program, its gains and the marks by the number, or those that were there
+  install-by : (b : Bool)
+      → withMarks (withPrimed (withGains (withProgram st (cond b p (st .program))) (cond b (p .gains) (st .gains))) (cond b false (st .primed)))
+      (cond b (marksSwapped (st .marks) (st .voices .active)) (st .marks))
+      ≡ cond b (installed st p) st
+  unfolding withMarks withGains withPrimed withProgram
+  install-by true = refl
+  install-by false = refl
 
-  pub swap-made : code ≡ 0 → (m : Marks) → m ≡ marksSwapped (st .marks) (st .voices .active)
-      → (0 ≡ swapProgram st p .code) × ((withMarks (withPrimed (withGains (withProgram st p) (p .gains)) false) m ≡ swapProgram st p .state) × (st .program ≡ swapProgram st p .program))
+  pub swap-done : (m : Marks) (g : Gains) (next old : Program) (primed : Bool)
+      → m ≡ cond (eqb code 0) (marksSwapped (st .marks) (st .voices .active)) (st .marks) → g ≡ cond (eqb code 0) (p .gains) (st .gains)
+      → next ≡ cond (eqb code 0) p (st .program) → old ≡ cond (eqb code 0) (st .program) p → primed ≡ cond (eqb code 0) false (st .primed)
+      → (code ≡ swapProgram st p .code)
+      × ((withMarks (withPrimed (withGains (withProgram st next) g) primed) m ≡ swapProgram st p .state) × (old ≡ swapProgram st p .program))
   unfolding swap-by
-  swap-made h m em =
-      let i : swap-by 0 ≡ swapProgram st p = ap swap-by (sym h) ∙ swap-is in (
-        ap (λ (s : Swap). s .code) i,
-        (
-          ap (withMarks (withPrimed (withGains (withProgram st p) (p .gains)) false)) em ∙ ap (λ (s : Swap). s .state) i,
-          ap (λ (s : Swap). s .program) i,
-        ),
-      )
+  swap-done m g next old primed em eg en eo ep = (
+    ap (λ (s : Swap). s .code) swap-is,
+    (rw (em, eg, en, ep) (install-by (eqb code 0) ∙ ap (λ (s : Swap). s .state) swap-is), eo ∙ ap (λ (s : Swap). s .program) swap-is),
+  )

@@ -9,8 +9,6 @@ ghost use Rattle.model.specs.Outputs.{engineStride, engineProgram, outputOf, au
 ghost use Rattle.model.specs.Outputs.{chunkCount, chunkAt, audioAt, controlValue, rampOf, latestOf, latestAll};
 ghost use mathlib.Core.Bool.{not, _||_};
 ghost use Rattle.model.specs.NoteCalls.{newNote, noteFinite, noteOn, noteOff, voiceEnded, isActive};
-ghost use Rattle.engine_notes.specs.Noting.{Inside, soundOn, heldOn};
-ghost use Rattle.engine_notes.specs.Parts.{soundingOf, stateWith};
 ghost use Rattle.model.specs.Process.{process};
 ghost use Rattle.model.specs.States.{withDraw};
 ghost use Rattle.engine.specs.Noting.{noteOf, settingBy};
@@ -21,8 +19,6 @@ use block_opening::Lengths;
 use config::Config;
 use config::SIGNAL_STRIDE;
 use config::SOURCES;
-use engine_notes::Lane;
-use engine_notes::RELEASE;
 use engine_notes::Setting;
 use engine_notes::Sounding;
 use slots_tables::KEY_PLACE;
@@ -55,8 +51,8 @@ pub struct Made {
 
 // The engine after a call, or as it came with the row by which the call is refused.
 pub struct Done {
-    pub code: u8,
     pub engine: Engine,
+    pub code: u8,
 }
 
 // The engine with the program installed and the one that it replaces; on a refusal both as they came.
@@ -131,27 +127,24 @@ impl Engine {
             program.dests,
             program.routes,
         );
-        if code != 0 {
-            return Swapped {
-                code,
-                engine: self,
-                program,
-            };
-        }
         let old = state.program;
         let voices = state.voices;
         let active = voices.active;
         let marks = state.marks;
-        let marked = marks.swapped(active);
-        state.program = program;
-        state.gains = gains;
-        state.marks = marked;
-        state.primed = false;
+        let marks_next = engine_settings::put_swapped(code, marks, active);
+        let gains_before = state.gains;
+        let gains_next = engine_settings::either_gains(code, gains, gains_before);
+        let installed = engine_settings::either_program(code, program, old);
+        let left = engine_settings::either_program(code, old, program);
+        state.program = installed;
+        state.gains = gains_next;
+        state.marks = marks_next;
+        state.primed = engine_settings::put_unprimed(code, state.primed);
         let engine = Engine { state };
         Swapped {
-            code: 0,
+            code,
             engine,
-            program: old,
+            program: left,
         }
     }
 
@@ -209,17 +202,11 @@ impl Engine {
             source,
             value,
         );
-        if code != 0 {
-            return Done { code, engine: self };
-        }
         let mark = state.mark;
         let voice = engine_settings::voice_at(mark, source);
         let stride = engine_settings::stride_of(config);
-        engine_settings::write_held(held, globals, voice, stride, source, value);
-        Done {
-            code: 0,
-            engine: self,
-        }
+        engine_settings::put_held(code, held, globals, voice, stride, source, value);
+        Done { code, engine: self }
     }
 
     // One lane of a source's held number.
@@ -241,16 +228,9 @@ impl Engine {
             voice,
             value,
         );
-        if code != 0 {
-            return Done { code, engine: self };
-        }
         let stride = engine_settings::stride_of(config);
-        let at = source * stride + voice;
-        held[at] = value;
-        Done {
-            code: 0,
-            engine: self,
-        }
+        engine_settings::put_lane(code, held, stride, source, voice, value);
+        Done { code, engine: self }
     }
 
     // A destination's base.
@@ -262,15 +242,10 @@ impl Engine {
             × (now (bases .exit) ≡ setBase
             (worldOf (self .state) [] [] (now (bases .entry)) [] [] []) dest value .world .bases)) ⌝ }
     {
-        let code = engine_settings::base_code(self.state.dests, bases.len(), dest, value);
-        if code != 0 {
-            return Done { code, engine: self };
-        }
-        bases[dest] = value;
-        Done {
-            code: 0,
-            engine: self,
-        }
+        let state = self.state;
+        let code = engine_settings::base_code(state.dests, bases.len(), dest, value);
+        engine_settings::put_base(code, bases, dest, value);
+        Done { code, engine: self }
     }
 
     // A slot's live amount, clamped to -1..1.
@@ -279,15 +254,12 @@ impl Engine {
             × (r .engine .state ≡ setAmount (worldOf (self .state) [] [] [] [] [] []) slot amount .world .state) ⌝ }
     {
         let code = engine_settings::gain_code(slot, amount);
-        if code != 0 {
-            return Done { code, engine: self };
-        }
         let mut state = self.state;
         let gains = state.gains;
-        let next = engine_settings::with_amount(gains, slot, amount);
+        let next = engine_settings::put_amount(code, gains, slot, amount);
         state.gains = next;
         let engine = Engine { state };
-        Done { code: 0, engine }
+        Done { code, engine }
     }
 
     // A slot's live output, clamped to 0..1.
@@ -296,15 +268,12 @@ impl Engine {
             × (r .engine .state ≡ setOutput (worldOf (self .state) [] [] [] [] [] []) slot output .world .state) ⌝ }
     {
         let code = engine_settings::gain_code(slot, output);
-        if code != 0 {
-            return Done { code, engine: self };
-        }
         let mut state = self.state;
         let gains = state.gains;
-        let next = engine_settings::with_output(gains, slot, output);
+        let next = engine_settings::put_output(code, gains, slot, output);
         state.gains = next;
         let engine = Engine { state };
-        Done { code: 0, engine }
+        Done { code, engine }
     }
 
     // The voice limit, at least 1.
@@ -426,39 +395,6 @@ fn setting_by(tables: &[f32], curves: Curves, rate: f32, note: NoteOn) -> Settin
     }
 }
 
-// the state and the held numbers, once a note starts in a lane
-fn play(mut state: State, held: &mut [f32], lane: Lane, setting: Setting) -> State
-    requires { ⌜ Inside lane ⌝ }
-    ensures { λ r. ⌜ (r ≡ stateWith state (soundOn (state .mark) lane (soundingOf state) setting))
-        × (now (held .exit) ≡ heldOn (state .mark) lane (soundingOf state) setting (now (held .entry))) ⌝ }
-{
-    let mark = state.mark;
-    let voices = state.voices;
-    let marks = state.marks;
-    let velocity = state.velocity;
-    let key = state.key;
-    let sounding = Sounding {
-        voices,
-        marks,
-        velocity,
-        key,
-        alternate: state.alternate,
-        draw: state.draw,
-    };
-    let next = engine_notes::note_on(held, mark, lane, sounding, setting);
-    let voices_next = next.voices;
-    state.voices = voices_next;
-    let marks_next = next.marks;
-    state.marks = marks_next;
-    let velocity_next = next.velocity;
-    state.velocity = velocity_next;
-    let key_next = next.key;
-    state.key = key_next;
-    state.alternate = next.alternate;
-    state.draw = next.draw;
-    state
-}
-
 impl Engine {
     // A note starts on a voice.
     pub fn note_on(self, held: &mut [f32], tables: &[f32], voice: usize, note: NoteOn) -> Done
@@ -470,7 +406,7 @@ impl Engine {
             (now (held .exit) ≡ noteOn (worldOf (self .state) (now (held .entry)) [] [] [] []
             (now (tables .entry))) voice (noteOf note) .world .held)) ⌝ }
     {
-        let state = self.state;
+        let mut state = self.state;
         let config = state.config;
         let program = state.program;
         let code = engine_notes::code(
@@ -484,9 +420,6 @@ impl Engine {
                 program.tabled,
             ),
         );
-        if code != 0 {
-            return Done { code, engine: self };
-        }
         let velocity_curve = program.velocity;
         let key_curve = program.key;
         let curves = Curves {
@@ -497,9 +430,32 @@ impl Engine {
         };
         let setting = setting_by(tables, curves, config.sample_rate, note);
         let lane = engine_notes::lane_of(state.sources, config.voices, voice);
-        let next = play(state, held, lane, setting);
-        let engine = Engine { state: next };
-        Done { code: 0, engine }
+        let mark = state.mark;
+        let voices = state.voices;
+        let marks = state.marks;
+        let velocity = state.velocity;
+        let key = state.key;
+        let sounding = Sounding {
+            voices,
+            marks,
+            velocity,
+            key,
+            alternate: state.alternate,
+            draw: state.draw,
+        };
+        let next = engine_notes::started(code, held, mark, lane, sounding, setting);
+        let voices_next = next.voices;
+        state.voices = voices_next;
+        let marks_next = next.marks;
+        state.marks = marks_next;
+        let velocity_next = next.velocity;
+        state.velocity = velocity_next;
+        let key_next = next.key;
+        state.key = key_next;
+        state.alternate = next.alternate;
+        state.draw = next.draw;
+        let engine = Engine { state };
+        Done { code, engine }
     }
 
     // A note is released: its release velocity is written, and its voice sounds on.
@@ -518,16 +474,10 @@ impl Engine {
             number::is_finite(release_velocity),
             engine_notes::held_short(held.len(), state.sources, config.voices),
         );
-        if code != 0 {
-            return Done { code, engine: self };
-        }
         let mark = state.mark;
         let lane = engine_notes::lane_of(state.sources, config.voices, voice);
-        engine_notes::write_kind(held, mark, lane, RELEASE, release_velocity);
-        Done {
-            code: 0,
-            engine: self,
-        }
+        engine_notes::released(code, held, mark, lane, release_velocity);
+        Done { code, engine: self }
     }
 
     // A voice has stopped sounding.
@@ -544,23 +494,29 @@ impl Engine {
             true,
             engine_notes::held_short(held.len(), state.sources, config.voices),
         );
-        if code != 0 {
-            return Done { code, engine: self };
-        }
         let voices = state.voices;
-        let voices_next = voices.voice_ended(voice);
-        state.voices = voices_next;
         let marks = state.marks;
-        let marks_next = marks.voice_ended(voice);
-        state.marks = marks_next;
         let velocity = state.velocity;
-        let velocity_next = velocity.voice_ended(voice);
-        state.velocity = velocity_next;
         let key = state.key;
-        let key_next = key.voice_ended(voice);
+        let sounding = Sounding {
+            voices,
+            marks,
+            velocity,
+            key,
+            alternate: state.alternate,
+            draw: state.draw,
+        };
+        let next = engine_notes::ended(code, sounding, voice);
+        let voices_next = next.voices;
+        state.voices = voices_next;
+        let marks_next = next.marks;
+        state.marks = marks_next;
+        let velocity_next = next.velocity;
+        state.velocity = velocity_next;
+        let key_next = next.key;
         state.key = key_next;
         let engine = Engine { state };
-        Done { code: 0, engine }
+        Done { code, engine }
     }
 
     // whether a voice is active
@@ -621,7 +577,7 @@ impl Engine {
             (now (values .entry)) (now (audio .entry)) (now (tables .entry)))
             (now (samples .entry)) signals start end .world .audio))) ⌝ }
     {
-        let state = self.state;
+        let mut state = self.state;
         let lent = Lengths {
             held: held.len(),
             globals: globals.len(),
@@ -632,16 +588,8 @@ impl Engine {
             samples: samples.len(),
         };
         let code = block::code(state, lent, signals, end);
-        if code != 0 {
-            return Done { code, engine: self };
-        }
-        if end <= start {
-            return Done {
-                code: 0,
-                engine: self,
-            };
-        }
-        let next = block::run(
+        let small = block::answered(
+            code,
             state,
             held,
             globals,
@@ -654,8 +602,19 @@ impl Engine {
             start,
             end,
         );
-        let engine = Engine { state: next };
-        Done { code: 0, engine }
+        state.primed = small.primed;
+        state.draw = small.draw;
+        state.phase = small.phase;
+        let velocity = small.velocity;
+        state.velocity = velocity;
+        let key = small.key;
+        state.key = key;
+        let marks = small.marks;
+        state.marks = marks;
+        let last = small.block;
+        state.block = last;
+        let engine = Engine { state };
+        Done { code, engine }
     }
 }
 

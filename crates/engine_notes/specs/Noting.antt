@@ -11,9 +11,9 @@ use Rattle.draw.specs.Xorshift.{step, drawOf}
 use Rattle.number.specs.Number.{zero32, one32}
 use Rattle.voice.specs.declared.Legato.{Legato}
 use Rattle.voice.specs.declared.Notes.{Notes}
-use Rattle.voice.specs.Voices.{soundedOn}
-use Rattle.voice.specs.Marks.{marksOn}
-use Rattle.voice.specs.Notes.{glidesTo, valueOf, setNote}
+use Rattle.voice.specs.Voices.{soundedOn, endedOf}
+use Rattle.voice.specs.Marks.{marksOn, marksEnded}
+use Rattle.voice.specs.Notes.{glidesTo, valueOf, setNote, endedNote}
 use Rattle.state.specs.declared.Kind.{Kind}
 use Rattle.state.specs.declared.Kind.the-variants as K
 use Rattle.state.specs.declared.SourceMark.{SourceMark}
@@ -109,3 +109,15 @@ heldOn marks lane s x m =
     (randomsIn marks lane (s .draw) (lane .sources)
     (valueIn marks lane 2 true (s .key) (x .key) (x .time)
     (valueIn marks lane 1 (x .takes) (s .velocity) (x .velocity) (x .time) m))))
+
+-- what sounds once a voice has stopped
+unfoldable pub soundEnded : Sounding → ℕ → Sounding
+soundEnded s v =
+    record {
+      voices = endedOf (s .voices) v;
+      marks = marksEnded (s .marks) v;
+      velocity = endedNote (s .velocity) v;
+      key = endedNote (s .key) v;
+      alternate = s .alternate;
+      draw = s .draw;
+    }

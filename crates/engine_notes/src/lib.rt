@@ -4,7 +4,7 @@ ghost use mathlib.Core.Path.{_≡_};
 ghost use mathlib.Core.Bool.{true, cond, not, _||_};
 ghost use mathlib.Core.List.{[], _∷_};
 ghost use Prim.Native.Nat.{_+_, _*_, _≤_, _<_, min};
-ghost use lib.Dec.{leb, ltb};
+ghost use lib.Dec.{eqb, leb, ltb};
 ghost use lib.ListN.{set};
 ghost use Rattle.config.specs.Sizes.{mostSources, mostVoices, laneStride};
 ghost use Rattle.draw.specs.Xorshift.{step, drawOf};
@@ -16,7 +16,7 @@ ghost use Rattle.voice.specs.Notes.{valueOf};
 ghost use Rattle.number.specs.Number.{zero32, one32};
 ghost use Rattle.model.specs.NoteCalls.{noteCurve};
 ghost use Rattle.engine_notes.specs.Noting.{noteKind, Inside, placeIn, heldIn, drawsIn, randomsIn, alternateBy};
-ghost use Rattle.engine_notes.specs.Noting.{alternatesIn, valueIn, notesWith, soundOn, heldOn};
+ghost use Rattle.engine_notes.specs.Noting.{alternatesIn, valueIn, notesWith, soundOn, heldOn, soundEnded};
 use config::SOURCES;
 use config::VOICES;
 use curve_table::POINTS;
@@ -457,4 +457,66 @@ pub fn note_on(
         alternate: !sounding.alternate,
         draw,
     }
+}
+
+// A voice stops sounding.
+fn stopped(sounding: Sounding, voice: usize) -> Sounding
+    ensures { λ r. ⌜ r ≡ soundEnded sounding voice ⌝ }
+{
+    let voices = sounding.voices;
+    let marks = sounding.marks;
+    let velocity = sounding.velocity;
+    let key = sounding.key;
+    Sounding {
+        voices: voices.voice_ended(voice),
+        marks: marks.voice_ended(voice),
+        velocity: velocity.voice_ended(voice),
+        key: key.voice_ended(voice),
+        alternate: sounding.alternate,
+        draw: sounding.draw,
+    }
+}
+
+// ---- a call with that number: it does something where it is accepted
+
+// A note starts in the lane.
+pub fn started(
+    code: u8,
+    held: &mut [f32],
+    mark: [SourceMark; SOURCES],
+    lane: Lane,
+    sounding: Sounding,
+    setting: Setting,
+) -> Sounding
+    requires { ⌜ (code ≡ 0 → Inside lane) ⌝ }
+    ensures { λ r. ⌜ (r ≡ cond (eqb code 0) (soundOn mark lane sounding setting) sounding)
+        × (now (held .exit) ≡ cond (eqb code 0) (heldOn mark lane sounding setting (now (held .entry)))
+        (now (held .entry))) ⌝ }
+{
+    if code != 0 {
+        return sounding;
+    }
+    note_on(held, mark, lane, sounding, setting)
+}
+
+// The release velocity of the lane's note.
+pub fn released(code: u8, held: &mut [f32], mark: [SourceMark; SOURCES], lane: Lane, x: f32)
+    requires { ⌜ (code ≡ 0 → Inside lane) ⌝ }
+    ensures { λ _. ⌜ now (held .exit) ≡ cond (eqb code 0) (heldIn mark lane 3 x (lane .sources) (now (held .entry)))
+        (now (held .entry)) ⌝ }
+{
+    if code != 0 {
+        return;
+    }
+    write_kind(held, mark, lane, RELEASE, x);
+}
+
+// What sounds once the voice has stopped.
+pub fn ended(code: u8, sounding: Sounding, voice: usize) -> Sounding
+    ensures { λ r. ⌜ r ≡ cond (eqb code 0) (soundEnded sounding voice) sounding ⌝ }
+{
+    if code != 0 {
+        return sounding;
+    }
+    stopped(sounding, voice)
 }

@@ -1,12 +1,14 @@
 // What an engine's making, its settings and its swap judge and write, by numbers and small structs (engine.rs 273-446).
 // The definitions are in model's specs/Settings.
 ghost use mathlib.Core.Path.{_≡_};
-ghost use mathlib.Core.Bool.{cond};
+ghost use mathlib.Core.Bool.{false, cond};
 ghost use mathlib.Core.List.{map};
 ghost use Prim.Native.Nat.{_+_, _*_, _<_, _≤_, min, max};
+ghost use lib.Dec.{eqb};
 ghost use lib.ListN.{length, getD, set, replicate};
 ghost use Rattle.config.specs.Sizes.{mostSources, mostDestinations, mostVoices, mostFrames, laneStride};
 ghost use Rattle.list.specs.Rows.{onRow};
+ghost use Rattle.voice.specs.Marks.{marksSwapped};
 ghost use Rattle.model.specs.Feeds.{isVoice};
 ghost use Rattle.model.specs.World.{noMark};
 ghost use Rattle.model.specs.Settings.{markOf, refusedState, withAmount, withOutput, sameConfig, everyFinite};
@@ -23,6 +25,7 @@ use config::VOICES;
 use state::Block;
 use state::Gains;
 use state::Kind;
+use state::Program;
 use state::Scope;
 use state::Source;
 use state::SourceMark;
@@ -325,6 +328,117 @@ pub fn write_held(
     }
     globals[source] = value;
 }
+
+// ---- a write of a call with that number: it is made where the call is accepted
+
+// the held number of a source
+pub fn put_held(
+    code: u8,
+    held: &mut [f32],
+    globals: &mut [f32],
+    voice: bool,
+    w: usize,
+    source: usize,
+    value: f32,
+)
+    requires { ⌜ (code ≡ 0 → (source * w + w ≤ length (now held)) × (source < length (now globals))) ⌝ }
+    ensures rows { λ _. ⌜ now (held .exit) ≡ cond (eqb code 0) (cond voice
+        (onRow (now (held .entry)) w source (replicate w value)) (now (held .entry))) (now (held .entry)) ⌝ }
+    ensures single { λ _. ⌜ now (globals .exit) ≡ cond (eqb code 0) (cond voice (now (globals .entry))
+        (set (now (globals .entry)) source value)) (now (globals .entry)) ⌝ }
+{
+    if code != 0 {
+        return;
+    }
+    write_held(held, globals, voice, w, source, value);
+}
+
+// one lane of it
+pub fn put_lane(code: u8, held: &mut [f32], w: usize, source: usize, voice: usize, value: f32)
+    requires { ⌜ (code ≡ 0 → source * w + voice < length (now held)) ⌝ }
+    ensures { λ _. ⌜ now (held .exit) ≡ cond (eqb code 0) (set (now (held .entry)) (source * w + voice) value)
+        (now (held .entry)) ⌝ }
+{
+    if code != 0 {
+        return;
+    }
+    let at = source * w + voice;
+    held[at] = value;
+}
+
+// a destination's base
+pub fn put_base(code: u8, bases: &mut [f32], dest: usize, value: f32)
+    requires { ⌜ (code ≡ 0 → dest < length (now bases)) ⌝ }
+    ensures { λ _. ⌜ now (bases .exit) ≡ cond (eqb code 0) (set (now (bases .entry)) dest value)
+        (now (bases .entry)) ⌝ }
+{
+    if code != 0 {
+        return;
+    }
+    bases[dest] = value;
+}
+
+// a slot's amount
+pub fn put_amount(code: u8, gains: Gains, slot: usize, amount: f32) -> Gains
+    ensures { λ r. ⌜ r ≡ cond (eqb code 0) (withAmount gains slot amount) gains ⌝ }
+{
+    if code != 0 {
+        return gains;
+    }
+    with_amount(gains, slot, amount)
+}
+
+// a slot's output
+pub fn put_output(code: u8, gains: Gains, slot: usize, output: f32) -> Gains
+    ensures { λ r. ⌜ r ≡ cond (eqb code 0) (withOutput gains slot output) gains ⌝ }
+{
+    if code != 0 {
+        return gains;
+    }
+    with_output(gains, slot, output)
+}
+
+// the marks, once a program is installed
+pub fn put_swapped(code: u8, marks: Marks, active: [bool; VOICES]) -> Marks
+    ensures { λ r. ⌜ r ≡ cond (eqb code 0) (marksSwapped marks active) marks ⌝ }
+{
+    if code != 0 {
+        return marks;
+    }
+    marks.swapped(active)
+}
+
+// the gains of an accepted call, or those before it
+pub fn either_gains(code: u8, next: Gains, before: Gains) -> Gains
+    ensures { λ r. ⌜ r ≡ cond (eqb code 0) next before ⌝ }
+{
+    if code != 0 {
+        return before;
+    }
+    next
+}
+
+// the program of an accepted call, or that before it
+pub fn either_program(code: u8, next: Program, before: Program) -> Program
+    ensures { λ r. ⌜ r ≡ cond (eqb code 0) next before ⌝ }
+{
+    if code != 0 {
+        return before;
+    }
+    next
+}
+
+// whether the program has ticked: one that is installed has not
+pub fn put_unprimed(code: u8, primed: bool) -> bool
+    ensures { λ r. ⌜ r ≡ cond (eqb code 0) false primed ⌝ }
+{
+    if code != 0 {
+        return primed;
+    }
+    false
+}
+
+// ---- marks and gains
 
 // whether the engine has source i as one per voice
 pub fn voice_at(mark: [SourceMark; SOURCES], i: usize) -> bool

@@ -1,6 +1,6 @@
 //! The port's side of a scenario: the function that its crate `bench` exports, and the memories that it is lent.
 
-use crate::scene::{Input, SLOTS, Scene, TABLES};
+use crate::scene::{Also, Input, SLOTS, Scene, TABLES};
 
 /// The memories of one engine and one program, as large as docs/CALLS.md says.
 #[cfg_attr(not(feature = "port"), allow(dead_code))]
@@ -24,7 +24,7 @@ impl Memories {
             bases: vec![0.0; scene.dests],
             values: vec![0.0; stride * (plans * (2 * chunks + 6) + 8 * scene.slots)],
             audio: vec![0.0; stride * plans * scene.frames],
-            tables: vec![0.0; if scene.rich { TABLES } else { 0 }],
+            tables: vec![0.0; if scene.rich || scene.also == Also::Preset { TABLES } else { 0 }],
         }
     }
 }
@@ -81,6 +81,7 @@ mod linked {
             call as usize,
             calls,
             blocks,
+            s.also as usize,
         ];
         let mut place = [0u64];
         // SAFETY: every address and length is that of a slice, no slice that is written overlaps another, and the function is

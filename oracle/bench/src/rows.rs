@@ -1,6 +1,6 @@
 //! What is timed: the rows of docs/SPEED.md.
 
-use crate::scene::{Call, Scene};
+use crate::scene::{Also, Call, Scene};
 
 pub struct Row {
     /// A short name, to ask for the row by.
@@ -20,6 +20,7 @@ const AUDIO: Scene = Scene {
     active: 64,
     frames: 512,
     buffers: 64,
+    also: Also::Nothing,
 };
 /// The same into 64 control destinations.
 const CONTROL: Scene = Scene { dests: 64, audio: false, ..AUDIO };
@@ -69,5 +70,42 @@ pub fn growth_rows() -> Vec<Row> {
             rows.push(row(&format!("v{key}{voices}"), text, scene, Call::Block));
         }
     }
+    rows
+}
+
+/// Blocks with curves, slews and aux, with glides, with a note each, into global destinations, and of a preset.
+pub fn kind_rows() -> Vec<Row> {
+    let mut rows = Vec::new();
+    for (key, what, base) in [("d", "a control", CONTROL), ("x", "an audio", AUDIO)] {
+        for slots in [1, 4, 16] {
+            let routes = if slots == 1 { "route" } else { "routes" };
+            let text = format!("{slots} {routes} with curves, slews and aux into {what} destination each");
+            let scene = Scene { slots, dests: slots, rich: true, ..base };
+            rows.push(row(&format!("r{key}{slots}"), text, scene, Call::Block));
+        }
+    }
+    for (key, what, base) in [("c", "control", CONTROL), ("a", "audio", AUDIO)] {
+        for slots in [4, 64] {
+            let dests = slots.min(32);
+            let text = format!("{slots} slots, every other with curves, slews and aux, into {dests} {what} destinations");
+            let scene = Scene { slots, dests, rich: true, also: Also::EveryOther, ..base };
+            rows.push(row(&format!("m{key}{slots}"), text, scene, Call::Block));
+        }
+    }
+    for (key, more, also) in [
+        ("l", "velocity and key gliding", Also::Glides),
+        ("t", "a note in every block", Also::Notes),
+        ("o", "all global", Also::Global),
+    ] {
+        for slots in [4, 64] {
+            let text = format!("{slots} slots into a control destination each, {more}");
+            let scene = Scene { slots, dests: slots, also, ..CONTROL };
+            rows.push(row(&format!("{key}c{slots}"), text, scene, Call::Block));
+        }
+        let text = format!("64 slots into 1 audio destination, {more}");
+        rows.push(row(&format!("{key}a64"), text, Scene { also, ..AUDIO }, Call::Block));
+    }
+    let preset = Scene { slots: 12, dests: 10, voices: 8, active: 8, frames: 128, also: Also::Preset, ..CONTROL };
+    rows.push(row("p", "a preset: 8 voices, 12 slots of all kinds into 10 destinations, 128 frames".to_owned(), preset, Call::Block));
     rows
 }

@@ -25,6 +25,26 @@ pub enum Call {
     NoteOn = 3,
 }
 
+/// What else is so of a scenario; the port is told its number.
+#[derive(Clone, Copy, PartialEq, Eq)]
+pub enum Also {
+    Nothing = 0,
+    /// Of rich slots every other one is plain.
+    EveryOther = 1,
+    /// Sources 2 and 3 are velocity and key, and both glide in every voice.
+    Glides = 2,
+    /// A note starts before every block.
+    Notes = 3,
+    /// Destinations are global.
+    Global = 4,
+    /// A preset with slots of all kinds: its own sources, destinations and slots.
+    Preset = 5,
+}
+
+/// Of the preset's slots, the source and the destination.
+const PRESET_SOURCE: [usize; 12] = [0, 1, 6, 7, 5, 8, 9, 2, 3, 0, 10, 4];
+const PRESET_DEST: [usize; 12] = [0, 1, 2, 1, 3, 4, 5, 6, 1, 8, 9, 7];
+
 /// As `Scene` of the port's crate `bench`, which is told these numbers in this order, then those of its calls.
 #[derive(Clone, Copy, PartialEq, Eq)]
 pub struct Scene {
@@ -36,6 +56,7 @@ pub struct Scene {
     pub active: usize,
     pub frames: usize,
     pub buffers: usize,
+    pub also: Also,
 }
 
 /// What both sides are lent to read: samples, and the tables of the matrix.
@@ -77,15 +98,35 @@ impl Scene {
         }
     }
 
+    fn kind(&self, i: usize) -> SourceKind {
+        match (self.also, i) {
+            (Also::Preset, 4 | 5) => SourceKind::Held,
+            (Also::Preset, 6) | (Also::Glides, 2) => SourceKind::Velocity,
+            (Also::Preset, 7) | (Also::Glides, 3) => SourceKind::Key,
+            (Also::Preset, 8) => SourceKind::Random,
+            (Also::Preset, 9) => SourceKind::RandomPerRoute,
+            (Also::Preset, 10) => SourceKind::Constant,
+            (Also::Preset | Also::Glides, _) => SourceKind::Signal,
+            (_, 60..) if self.rich => SourceKind::Held,
+            _ => SourceKind::Signal,
+        }
+    }
+
+    /// Whether source i is global: of a preset a signal and two that are held.
+    fn is_global(&self, i: usize) -> bool {
+        self.also == Also::Preset && (3..=5).contains(&i)
+    }
+
     fn sources(&self) -> Sources {
         let mut sources = Sources::new();
         for i in 0..SLOTS {
+            let bipolar = self.also == Also::Preset && i == 0;
             let info = SourceInfo {
                 key: format!("s{i}"),
                 label: String::new(),
-                kind: if self.rich && i >= 60 { SourceKind::Held } else { SourceKind::Signal },
-                scope: Scope::Voice,
-                range: SourceRange::Unipolar,
+                kind: self.kind(i),
+                scope: if self.is_global(i) { Scope::Global } else { Scope::Voice },
+                range: if bipolar { SourceRange::Bipolar } else { SourceRange::Unipolar },
             };
             sources.add(info).unwrap();
         }
@@ -94,11 +135,31 @@ impl Scene {
 
     fn feed(&self, d: usize) -> Option<Feed> {
         match d {
+            7 if self.also == Also::Preset => Some(Feed::Amount(0)),
             12 if self.rich => Some(Feed::Source(SourceId(62))),
             13 if self.rich => Some(Feed::Amount(5)),
             14 if self.rich => Some(Feed::Output(6)),
             15 if self.rich => Some(Feed::Source(SourceId(61))),
             _ => None,
+        }
+    }
+
+    fn rate(&self, d: usize) -> Rate {
+        match (self.also, d) {
+            (Also::Preset, 0 | 1) => Rate::Audio,
+            (Also::Preset, 9) => Rate::Adaptive,
+            (Also::Preset, _) => Rate::Control,
+            _ if self.audio => Rate::Audio,
+            _ => Rate::Control,
+        }
+    }
+
+    /// Whether destination d is global.
+    fn is_shared(&self, d: usize) -> bool {
+        match self.also {
+            Also::Global => true,
+            Also::Preset => d == 3 || d == 7,
+            _ => false,
         }
     }
 
@@ -108,8 +169,8 @@ impl Scene {
             let info = DestinationInfo {
                 target: Target::Param(ParamId(d as u32)),
                 label: String::new(),
-                scope: Scope::Voice,
-                rate: if self.audio { Rate::Audio } else { Rate::Control },
+                scope: if self.is_shared(d) { Scope::Global } else { Scope::Voice },
+                rate: self.rate(d),
                 min: -1.0,
                 max: 1.0,
                 feed: self.feed(d),
@@ -119,8 +180,29 @@ impl Scene {
         dests
     }
 
+    fn preset_slot(&self, n: usize, plain: Slot, drawn: impl Fn(usize, f32, f32) -> Curve) -> Slot {
+        Slot {
+            source: Some(SourceId(PRESET_SOURCE[n] as u16)),
+            source_curve: match n {
+                2 => drawn(2 * n, 0.0, 0.0),
+                7 | 9 => drawn(2 * n, 0.05, 0.01),
+                _ => Curve::default(),
+            },
+            destination: Some(Target::Param(ParamId(PRESET_DEST[n] as u32))),
+            aux: match n {
+                0 => Some(SourceId(4)),
+                7 | 9 => Some(SourceId(6)),
+                _ => None,
+            },
+            aux_invert: n == 9,
+            ..plain
+        }
+    }
+
     fn matrix(&self, input: &Input) -> Matrix {
         let mut matrix = Matrix::new();
+        matrix.note_curves.glide = self.also == Also::Glides;
+        matrix.note_curves.velocity_legato = self.also == Also::Glides;
         for n in 0..self.slots {
             let x = n as f32;
             let plain = Slot {
@@ -138,7 +220,10 @@ impl Scene {
                 }))
             };
             let rise = 0.001 + x / 6400.0;
-            *matrix.slot_mut(n).unwrap() = if self.rich {
+            let rich = self.rich && (self.also != Also::EveryOther || n % 2 == 0);
+            *matrix.slot_mut(n).unwrap() = if self.also == Also::Preset {
+                self.preset_slot(n, plain, drawn)
+            } else if rich {
                 Slot {
                     source_curve: drawn(2 * n, rise, 0.01),
                     aux: Some(SourceId(((n + 7) % 64) as u16)),
@@ -166,6 +251,11 @@ impl Scene {
         for v in 0..self.active {
             engine.note_on(v, NoteOn::new(60.0, 1.0));
         }
+        if self.also == Also::Glides {
+            for v in 0..self.active {
+                engine.note_on(v, NoteOn { legato: true, glide_seconds: 1000.0, ..NoteOn::new(72.0, 0.0) });
+            }
+        }
         engine
     }
 
@@ -188,9 +278,13 @@ impl Scene {
         let mut signals = Signals::new();
         for i in 0..SLOTS {
             let at = i % self.buffers * len;
-            signals.bind(SourceId(i as u16), &input.samples[at..at + len], self.voices);
+            let width = if self.is_global(i) { 1 } else { self.voices };
+            signals.bind(SourceId(i as u16), &input.samples[at..at + len], width);
         }
-        for _ in 0..blocks {
+        for i in 0..blocks {
+            if self.also == Also::Notes {
+                e.note_on(black_box(blocks - i) % self.active, NoteOn::new(60.0, 1.0));
+            }
             e.process_at(simd::level(), black_box(&signals), 0..self.frames);
             black_box(&mut *e);
         }
@@ -206,11 +300,12 @@ impl Scene {
             }
         };
         for d in 0..self.dests {
+            let lanes = if self.is_shared(d) { 1 } else { self.voices };
             match engine.output(DestId(d as u16)) {
                 Output::Audio(a) => (0..self.frames)
-                    .for_each(|k| a.frame(k)[..self.voices].iter().for_each(|x| eat(*x))),
+                    .for_each(|k| a.frame(k)[..lanes].iter().for_each(|x| eat(*x))),
                 Output::Control(c) => (0..c.chunks().len())
-                    .for_each(|i| (0..self.voices).for_each(|v| eat(c.value(i, v)))),
+                    .for_each(|i| (0..lanes).for_each(|v| eat(c.value(i, v)))),
                 Output::Unmodulated => {}
             }
         }

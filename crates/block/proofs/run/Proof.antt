@@ -1,5 +1,6 @@
 -- `block::run` meets its contract.
 use Rattle.block.proofs.Blocks.{run-none, run-some}
+use Rattle.block.proofs.Rests.{routed-small}
 use borrow.Author.Needs.{needs}
 use Rattle.block.proofs.run.Statement.{statement}
 use Rattle.block.proofs.run.Tie as tie
@@ -33,10 +34,15 @@ same-length-4 c = search needs
 same-length-5 : tie.Need-same-length-5
 same-length-5 c = search needs
 
+small-of-requires : tie.Need-small-of-requires
+small-of-requires c κs = search needs
+
 returns-2 : tie.Need-returns-2
 returns-2 c =
-    let a = c .before .before .before .before .before .before .before .before .before .before .before .before .before .before .before .before .before .before .before .before .before .before .before .args in
-    run-some (a .samples .now) (a .signals) (a .start) (a .end) _ (c .before .before .before .before .before .before .before .before .before .before .before .before .before .if1 .left) _ (c .before .before .before .before .before .before .before .before .routed .ensures)
+    let p = c .before .before .before .before .before .before .before .before .before in
+    let f = p .before .before .before .before .before in
+    let a = f .before .before .before .before .before .before .before .before .before .before .args in
+    run-some (a .samples .now) (a .signals) (a .start) (a .end) _ (f .if1 .left) _ (routed-small (a .samples .now) (a .signals) (a .start) (a .end) (a .state) (p .routed .result) _ _ _ _ _ _ _ _ _ _ _ (c .small-of .ensures) (p .routed .ensures))
 
 pub run-spec : {M : Type 1} → statement M
 run-spec =
@@ -47,6 +53,7 @@ run-spec =
     same-length
     returns
     routed-requires
+    small-of-requires
     same-length-2
     same-length-3
     same-length-4

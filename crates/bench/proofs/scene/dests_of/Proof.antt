@@ -5,10 +5,10 @@ use Rattle.bench.proofs.scene.dests_of.Statement.{statement}
 use Rattle.bench.proofs.scene.dests_of.Tie as tie
 
 abbrev Inv-loop : tie.InvT-loop
-Inv-loop n audio rich s₀ code₀ d₀ s code d = (d ≤ n)
+Inv-loop s n dests₀ code₀ d₀ dests code d = (d ≤ n)
 
 abbrev μ-loop : tie.MeasureT-loop
-μ-loop n audio rich s₀ code₀ d₀ s code d = n - d
+μ-loop s n dests₀ code₀ d₀ dests code d = n - d
 
 new-requires : tie.Need-new-requires Inv-loop μ-loop
 new-requires c κs = search needs

@@ -5,10 +5,10 @@ use Rattle.bench.proofs.scene.matrix_of.Statement.{statement}
 use Rattle.bench.proofs.scene.matrix_of.Tie as tie
 
 abbrev Inv-loop : tie.InvT-loop
-Inv-loop slots dests rich m₀ code₀ n₀ m code n = (n ≤ slots)
+Inv-loop s slots m₀ code₀ n₀ m code n = (n ≤ slots)
 
 abbrev μ-loop : tie.MeasureT-loop
-μ-loop slots dests rich m₀ code₀ n₀ m code n = slots - n
+μ-loop s slots m₀ code₀ n₀ m code n = slots - n
 
 new-requires : tie.Need-new-requires Inv-loop μ-loop
 new-requires c κs = search needs

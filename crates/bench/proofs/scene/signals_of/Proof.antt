@@ -5,10 +5,10 @@ use Rattle.bench.proofs.scene.signals_of.Statement.{statement}
 use Rattle.bench.proofs.scene.signals_of.Tie as tie
 
 abbrev Inv-loop : tie.InvT-loop
-Inv-loop voices buffers len bound₀ code₀ i₀ bound code i = (i ≤ 64)
+Inv-loop s voices buffers len bound₀ code₀ i₀ bound code i = (i ≤ 64)
 
 abbrev μ-loop : tie.MeasureT-loop
-μ-loop voices buffers len bound₀ code₀ i₀ bound code i = 64 - i
+μ-loop s voices buffers len bound₀ code₀ i₀ bound code i = 64 - i
 
 product-requires : tie.Need-product-requires Inv-loop μ-loop
 product-requires c κs = search needs
@@ -21,6 +21,9 @@ loop-holds c = search needs
 
 buffer-at-requires : tie.Need-buffer-at-requires Inv-loop μ-loop
 buffer-at-requires c κs = search needs
+
+width-of-requires : tie.Need-width-of-requires Inv-loop μ-loop
+width-of-requires c κs = search needs
 
 bind-requires : tie.Need-bind-requires Inv-loop μ-loop
 bind-requires c κs = search needs
@@ -50,6 +53,7 @@ signals-of-spec =
     no-signals-requires
     loop-holds
     buffer-at-requires
+    width-of-requires
     bind-requires
     first-requires
     add-i

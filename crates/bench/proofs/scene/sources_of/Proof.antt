@@ -5,10 +5,10 @@ use Rattle.bench.proofs.scene.sources_of.Statement.{statement}
 use Rattle.bench.proofs.scene.sources_of.Tie as tie
 
 abbrev Inv-loop : tie.InvT-loop
-Inv-loop rich s₀ code₀ i₀ s code i = (i ≤ 64)
+Inv-loop s sources₀ code₀ i₀ sources code i = (i ≤ 64)
 
 abbrev μ-loop : tie.MeasureT-loop
-μ-loop rich s₀ code₀ i₀ s code i = 64 - i
+μ-loop s sources₀ code₀ i₀ sources code i = 64 - i
 
 new-requires : tie.Need-new-requires Inv-loop μ-loop
 new-requires c κs = search needs

@@ -7,16 +7,16 @@ use Rattle.bench.proofs.work.note_ons.Statement.{statement}
 use Rattle.bench.proofs.work.note_ons.Tie as tie
 
 abbrev Inv-loop : tie.InvT-loop
-Inv-loop calls held₀ tables code₀ e₀ i₀ held code e i = (i ≤ calls) × (length held ≡ length held₀)
+Inv-loop start calls note held₀ tables code₀ e₀ i₀ held code e i = (i ≤ calls) × (length held ≡ length held₀)
 
 abbrev μ-loop : tie.MeasureT-loop
-μ-loop calls held₀ tables code₀ e₀ i₀ held code e i = calls - i
+μ-loop start calls note held₀ tables code₀ e₀ i₀ held code e i = calls - i
 
 loop-holds : tie.Need-loop-holds Inv-loop μ-loop
 loop-holds c = (search needs, search needs)
 
-new-requires : tie.Need-new-requires Inv-loop μ-loop
-new-requires c κs = search needs
+voice-after-requires : tie.Need-voice-after-requires Inv-loop μ-loop
+voice-after-requires c κs = search needs
 
 note-on-requires : tie.Need-note-on-requires Inv-loop μ-loop
 note-on-requires c κs = search needs
@@ -46,7 +46,7 @@ note-ons-spec =
     Inv-loop
     μ-loop
     loop-holds
-    new-requires
+    voice-after-requires
     note-on-requires
     first-requires
     add-i

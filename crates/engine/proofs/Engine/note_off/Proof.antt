@@ -1,6 +1,6 @@
 -- `Engine::note_off` meets its contract.
 use borrow.Author.Needs.{needs}
-use Rattle.engine.proofs.NotingCalls.{voice-below, inside, off-refused, off-made}
+use Rattle.engine.proofs.NotingCalls.{voice-below, inside, off-done}
 use Rattle.engine.proofs.Engine.note_off.Statement.{statement}
 use Rattle.engine.proofs.Engine.note_off.Tie as tie
 
@@ -16,29 +16,26 @@ held-short-requires c κs = search needs
 code-requires : tie.Need-code-requires
 code-requires c κs = search needs
 
-returns : tie.Need-returns
-returns c =
-    let a = c .before .before .before .before .before .before .before .before .args in
-    let j = c .before in
-    off-refused (a .self .state) (a .held .now) (a .voice) (a .release-velocity) (j .code .result) (j .before .before .before .no-voice .result) (j .before .before .is-finite .result) (j .before .held-short .result) (j .before .before .before .no-voice .ensures) (j .before .before .is-finite .ensures) (j .before .held-short .ensures) (j .code .ensures) (c .if1 .taken)
-
 lane-of-requires : tie.Need-lane-of-requires
 lane-of-requires c κs = search needs
 
-write-kind-requires : tie.Need-write-kind-requires
-write-kind-requires c κs =
-    let a = c .before .before .before .before .before .before .before .before .before .before .before .args in
-    let j = c .before .before .before .before in
-    inside (a .self .state) (a .voice) (c .before .lane-of .result) (voice-below (j .code .result) (a .voice) (a .self .state .config .voices) (j .before .before .before .no-voice .result) _ (j .before .before .before .no-voice .ensures) (j .code .ensures) (c .before .before .before .if1 .left)) (c .before .lane-of .ensures)
+released-requires : tie.Need-released-requires
+released-requires c κs =
+    let l = c .before in
+    let j = l .before .before in
+    let a = j .before .before .before .before .before .before .before .args in
+    λ z. inside (a .self .state) (a .voice) (l .lane-of .result) (voice-below (j .code .result) (a .voice) (a .self .state .config .voices) (j .before .before .before .no-voice .result) _ (j .before .before .before .no-voice .ensures) (j .code .ensures) z) (l .lane-of .ensures)
 
 same-length : tie.Need-same-length
 same-length c = search needs
 
-returns-2 : tie.Need-returns-2
-returns-2 c =
-    let a = c .before .before .before .before .before .before .before .before .before .before .before .before .before .before .args in
-    let j = c .before .before .before .before .before .before .before in
-    off-made (a .self .state) (a .held .now) (a .voice) (a .release-velocity) (j .code .result) (j .before .before .before .no-voice .result) (j .before .before .is-finite .result) (j .before .held-short .result) (j .before .before .before .no-voice .ensures) (j .before .before .is-finite .ensures) (j .before .held-short .ensures) (j .code .ensures) (c .before .before .before .before .before .before .if1 .left) (c .before .before .before .before .lane-of .result) _ (c .before .before .before .before .lane-of .ensures) (c .before .before .write-kind .ensures)
+returns : tie.Need-returns
+returns c =
+    let p = c .before .before in
+    let l = p .before .before in
+    let j = l .before .before in
+    let a = j .before .before .before .before .before .before .before .args in
+    off-done (a .self .state) (a .held .now) (a .voice) (a .release-velocity) (j .code .result) (j .before .before .before .no-voice .result) (j .before .before .is-finite .result) (j .before .held-short .result) (j .before .before .before .no-voice .ensures) (j .before .before .is-finite .ensures) (j .before .held-short .ensures) (j .code .ensures) (l .lane-of .result) _ (l .lane-of .ensures) (p .released .ensures)
 
 pub note-off-spec : {M : Type 1} → statement M
 note-off-spec =
@@ -48,8 +45,7 @@ note-off-spec =
     is-finite-requires
     held-short-requires
     code-requires
-    returns
     lane-of-requires
-    write-kind-requires
+    released-requires
     same-length
-    returns-2)
+    returns)
