@@ -11,7 +11,7 @@ use Rattle.state.specs.declared.State.{State}
 use Rattle.model.specs.Chunks.{chunkTotal, chunkOf}
 use Rattle.model.specs.World.{World, worldOf}
 use Rattle.model.specs.States.{withMarks, withVelocity, withKey, withDraw, withPhase, withBlock, withPrimed, putState, putHeld, putGlobals, putValues, putAudio}
-use Rattle.model.specs.Process.{glided, snapOf, ticked, rowed, sounded, chunkStep, chunkSteps, blockOf}
+use Rattle.model.specs.Process.{glided, snapAt, ticked, rowed, sounded, chunkStep, chunkSteps, blockOf}
 use Rattle.block.specs.declared.Small.{Small}
 use Rattle.block.specs.Smalls.{smallOf, withSmall}
 use Rattle.block.specs.Worlds.{loadedWorld, drawnWorld, closedWorld, steppedWorld, routedWorld}
@@ -56,11 +56,11 @@ module _ (samples : List Float) (signals : Signals) where
   rests-step : (i : ℕ) (c : Chunk) (w : World) → Rests (w .state) (chunkStep samples signals i c w .state)
   unfolding chunkStep
   rests-step i c w =
-      let t = ticked samples signals c (snapOf i w) w in
-      let s = sounded samples signals c (snapOf i w) (rowed i t) in
+      let t = ticked samples signals c (snapAt i w) w in
+      let s = sounded samples signals c (snapAt i w) (rowed i t) in
       let g = glided (c .len) s in
       rests-on (w .state) (s .state) (g .state)
-      (rests-on (w .state) (t .state) (s .state) (rests-ticked c (snapOf i w) w) (rests-sounded i c (snapOf i w) t))
+      (rests-on (w .state) (t .state) (s .state) (rests-ticked c (snapAt i w) w) (rests-sounded i c (snapAt i w) t))
       (rests-glided (c .len) s)
 
   rests-steps : (b : Block) (n : ℕ) (w : World) → Rests (w .state) (chunkSteps samples signals b n w .state)
