@@ -24,3 +24,5 @@ pub mod Renamed
 pub mod ReadFeeds
 pub mod TickRule
 pub mod Claim
+pub mod SaidInputs
+pub mod SaidTerms
