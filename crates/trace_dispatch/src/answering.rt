@@ -162,6 +162,36 @@ fn stopped(s: State, h: Hand) -> State {
     next
 }
 
+// a call of n words that leaves the programs outside as they are
+fn on_other(
+    s: State,
+    h: Hand,
+    c: Command,
+    n: usize,
+    line: &[u8],
+    out: &mut [u8],
+    book: &mut [usize],
+    desk: &mut [f32],
+    values: &mut [f32],
+    audio: &mut [f32],
+    pool: &mut [f32],
+) -> State {
+    match c {
+        Command::Registry(r) => trace_lines_stage::on_registry(s, h, r, line, out, book),
+        Command::Editing(e) => {
+            trace_lines_stage::on_matrix(s, h, e, line, n, out, book, desk, audio)
+        }
+        Command::Making(_) => s,
+        Command::Lending(l) => trace_lines_stage::on_lending(s, h, l, line, n, out, book, pool),
+        Command::Setting(t) => on_setting(s, h, t, line, out, book, desk, pool),
+        Command::Process => on_process(s, h, line, out, book, desk, values, audio, pool),
+        Command::Reading(r) => on_reading(s, h, r, line, n, out, book, values, audio, pool),
+        Command::State => on_state(s, h, out, book, desk, pool),
+        Command::Memory => on_memory(s, h, out, book, values, audio),
+        Command::Standard => trace_lines_stage::on_standard(s, h, line, out, book),
+    }
+}
+
 // a call of n words
 fn on_call(
     s: State,
@@ -178,50 +208,11 @@ fn on_call(
     audio: &mut [f32],
     pool: &mut [f32],
 ) -> After {
-    match c {
-        Command::Registry(r) => after(
-            trace_lines_stage::on_registry(s, h, r, line, out, book),
-            i,
-            p,
-        ),
-        Command::Editing(e) => after(
-            trace_lines_stage::on_matrix(s, h, e, line, n, out, book, desk, audio),
-            i,
-            p,
-        ),
-        Command::Making(m) => trace_lines_stage::on_whole(
-            s,
-            p,
-            i,
-            h,
-            m,
-            out,
-            book,
-            desk,
-            values,
-            audio,
-            pool,
-        ),
-        Command::Lending(l) => after(
-            trace_lines_stage::on_lending(s, h, l, line, n, out, book, pool),
-            i,
-            p,
-        ),
-        Command::Setting(t) => after(on_setting(s, h, t, line, out, book, desk, pool), i, p),
-        Command::Process => after(
-            on_process(s, h, line, out, book, desk, values, audio, pool),
-            i,
-            p,
-        ),
-        Command::Reading(r) => after(
-            on_reading(s, h, r, line, n, out, book, values, audio, pool),
-            i,
-            p,
-        ),
-        Command::State => after(on_state(s, h, out, book, desk, pool), i, p),
-        Command::Memory => after(on_memory(s, h, out, book, values, audio), i, p),
-        Command::Standard => after(trace_lines_stage::on_standard(s, h, line, out, book), i, p),
-    }
+    let Command::Making(m) = c else {
+        let state = on_other(s, h, c, n, line, out, book, desk, values, audio, pool);
+        return after(state, i, p);
+    };
+    trace_lines_stage::on_whole(s, p, i, h, m, out, book, desk, values, audio, pool)
 }
 
 // The state after a line in hand. What it prints is appended to `out`. p is program i, which `number_of` answers.
