@@ -74,7 +74,7 @@ def table(spec):
 
 def key_of(word):
     """A key's bytes."""
-    return b"" if word == "~" else word.encode()
+    return b"" if word == "~" else word.encode("utf-8", "surrogateescape")
 
 
 FIXED = [b"velocity", b"key", b"channel_pressure", b"poly_pressure", b"random1", b"random2", b"alternate1", b"alternate2",
