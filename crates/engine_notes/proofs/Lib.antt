@@ -1,4 +1,3 @@
 pub mod Steps
 pub mod KindNumbers
 pub mod Whole
-pub mod Answers
