@@ -1,4 +1,5 @@
-// Reads a decimal case number from standard input and prints what document 01 has for that case: 5, or 10 with its note.
+// Reads a decimal case number from standard input and prints what document 01 has for that case, 5, or 10 with its
+// note, and document 02 for 13 (C-12).
 ghost use Prim.Native.Nat.{_<_};
 
 mod digits;
@@ -128,6 +129,11 @@ fn main() {
     if case == 10 {
         play_case(
             b"print cases\nconfig 473B8000 64 1\nsource one constant g u\ndest p:0 g control 00000000 3F800000 -\nslot 0 src=0 dst=p:0 amt=3F000000 out=3F800000\ncompile P\nengine\nset_base 0 3E800000\nprocess 0 5\nnote_on 0 42700000 3F800000 0 00000000\nvoice_ended 0\nswap P\nprocess 0 27\n",
+        );
+    }
+    if case == 13 {
+        play_case(
+            b"print cases\nconfig 473B8000 64 1\nsource one constant g u\ndest p:0 g control 00000000 3F800000 -\ndest p:1 g control 00000000 3F800000 amt:0\nslot 0 src=0 dst=p:0 amt=3F000000 out=3F800000\nslot 1 src=0 dst=p:1 amt=3E800000 out=3F800000\ncompile P\nengine\nset_base 0 3E800000\nswap P\nprocess 0 64\n",
         );
     }
 }

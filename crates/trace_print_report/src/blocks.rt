@@ -1,6 +1,9 @@
 // The outputs of every destination: CHUNK, FROM, TO, A, HC, HA, D and UNMOD lines.
 ghost use mathlib.Core.Path.{_≡_};
-ghost use lib.ListN.{length};
+ghost use Prim.Native.Nat.{ℕ, _<_};
+ghost use lib.ListN.{length, getD, set};
+ghost use Rattle.config.specs.Sizes.{slots, mostFrames, mostChunks};
+ghost use Rattle.trace_print_order.specs.Order.{placed};
 use crate::How;
 use crate::Print;
 use crate::Told;
@@ -12,6 +15,7 @@ use state::ChunkRead;
 use state::Output;
 use state::Plan;
 use state::Program;
+use trace_print_order::NONE;
 
 // Which audio rows are printed, and how.
 struct Span {
@@ -21,10 +25,10 @@ struct Span {
     canon: bool,
 }
 
-// ---- which destinations have plans
+// the most chunks of a block
+const CHUNKS: usize = 130;
 
-// no destination
-const NONE: usize = 65536;
+// ---- which destinations have plans
 
 // the destination of a plan that is there, and at control rate where only those are asked for
 fn dest_of(plan: Plan, there: bool, control: bool) -> usize {
@@ -50,25 +54,6 @@ fn dests_of(program: Program, control: bool) -> [usize; SLOTS]
         k += 1usize;
     }
     dests
-}
-
-// the lesser of two, where the second is not below `from`
-fn lesser_from(best: usize, d: usize, from: usize) -> usize {
-    if d < from {
-        return best;
-    }
-    trace_output_figures::lesser(best, d)
-}
-
-// the least that is not below `from`, or NONE
-fn least(dests: &[usize], from: usize) -> usize {
-    let mut best = NONE;
-    let mut k = 0usize;
-    while k < dests.len() {
-        best = lesser_from(best, dests[k], from);
-        k += 1usize;
-    }
-    best
 }
 
 // whether d is among them
@@ -169,22 +154,50 @@ fn lane_0(xs: &[f32], s: Shape, i: usize, out: &mut [u8], at: usize) -> usize {
     trace_output_figures::number(x, s.canon, out, at)
 }
 
+// Where the output goes on after a line, or the lines of a destination, and what they are of: a chunk, a destination.
+struct Line {
+    at: usize,
+    of: usize,
+}
+
+// the line of chunk i
 fn case_line(
-    read: ChunkRead,
+    engine: Engine,
     from: &[f32],
     to: &[f32],
     s: Shape,
     i: usize,
     out: &mut [u8],
     at: usize,
-) -> usize {
+) -> Line
+    ensures { λ r. ⌜ r .of ≡ i ⌝ }
+{
     let mut p = trace_output_show::put(out, at, b"D ");
-    p = chunk_read(s.dest, read, out, p);
+    p = chunk_read(s.dest, engine.chunk(i), out, p);
     p = lane_0(from, s, i, out, p);
     p = lane_0(to, s, i, out, p);
-    trace_output_show::put(out, p, b"\n")
+    p = trace_output_show::put(out, p, b"\n");
+    Line { at: p, of: i }
 }
 
+// Where the output goes on after the lines of a destination, and the chunks in the order of their lines.
+struct Rows {
+    at: usize,
+    chunks: [usize; CHUNKS],
+}
+
+// line i is of chunk c
+fn noted(chunks: [usize; CHUNKS], i: usize, c: usize) -> [usize; CHUNKS]
+    ensures { λ r. ⌜ r ≡ set chunks i c ⌝ }
+{
+    let mut noted = chunks;
+    if i < CHUNKS {
+        noted[i] = c;
+    }
+    noted
+}
+
+// the lines of a control plan go by chunk
 fn control_cases(
     engine: Engine,
     from: &[f32],
@@ -193,14 +206,37 @@ fn control_cases(
     chunks: usize,
     out: &mut [u8],
     at: usize,
-) -> usize {
+) -> Rows
+    ensures { λ r. ⌜ (length (r .chunks) ≡ mostChunks mostFrames)
+        × ((k : ℕ) → k < chunks → k < mostChunks mostFrames → getD (r .chunks) k 0 ≡ k) ⌝ }
+{
+    let mut printed = [0usize; CHUNKS];
     let mut p = at;
     let mut i = 0usize;
     while i < chunks {
-        p = case_line(engine.chunk(i), from, to, s, i, out, p);
+        let line = case_line(engine, from, to, s, i, out, p);
+        p = line.at;
+        let next = noted(printed, i, line.of);
+        printed = next;
         i += 1usize;
     }
-    p
+    Rows {
+        at: p,
+        chunks: printed,
+    }
+}
+
+fn cases_after(
+    engine: Engine,
+    from: &[f32],
+    to: &[f32],
+    s: Shape,
+    chunks: usize,
+    out: &mut [u8],
+    at: usize,
+) -> usize {
+    let rows = control_cases(engine, from, to, s, chunks, out, at);
+    rows.at
 }
 
 fn control(
@@ -224,7 +260,7 @@ fn control(
     match print {
         Print::Full => control_full(from, to, s, chunks, out, at),
         Print::Hash => control_hash(from, to, s, chunks, out, at),
-        Print::Cases => control_cases(engine, from, to, s, chunks, out, at),
+        Print::Cases => cases_after(engine, from, to, s, chunks, out, at),
         Print::Silent => at,
     }
 }
@@ -336,7 +372,7 @@ fn sounded(engine: Engine, mem: &[f32], s: Shape, span: Span, out: &mut [u8], at
 }
 
 // a destination's output; `first` says that the chunks stand before it
-fn one(
+fn shown(
     engine: Engine,
     dest: usize,
     first: bool,
@@ -362,29 +398,67 @@ fn one(
     }
 }
 
-// the outputs that have plans
+// a destination's lines
+fn one(
+    engine: Engine,
+    dest: usize,
+    first: bool,
+    values: &[f32],
+    mem: &[f32],
+    span: Span,
+    out: &mut [u8],
+    at: usize,
+) -> Line
+    ensures { λ r. ⌜ r .of ≡ dest ⌝ }
+{
+    let p = shown(engine, dest, first, values, mem, span, out, at);
+    Line { at: p, of: dest }
+}
+
+// Where the output goes on after the lines of a block, and the destinations in the order of their lines, NONE after the
+// last.
+struct Printed {
+    at: usize,
+    dests: [usize; SLOTS],
+}
+
+// the outputs that have plans, in this order of their destinations: their lines go by destination number
 fn planned(
     engine: Engine,
     dests: &[usize],
+    order: &[usize],
     first: usize,
     values: &[f32],
     audio: &[f32],
     span: Span,
     out: &mut [u8],
     at: usize,
-) -> usize {
+) -> Printed
+    requires { ⌜ (length (now dests) ≡ slots) × (length (now order) ≡ slots)
+        × ((k : ℕ) → k < slots → getD (now order) k 0 ≡ placed (now dests) k) ⌝ }
+    ensures { λ r. ⌜ (length (r .dests) ≡ slots)
+        × ((k : ℕ) → k < slots → getD (r .dests) k 0 ≡ placed (now (dests .entry)) k) ⌝ }
+{
+    let mut printed = [NONE; SLOTS];
     let mut p = at;
-    let mut d = least(dests, 0);
     let mut k = 0usize;
-    while k < dests.len() {
+    while k < SLOTS {
+        let d = order[k];
         if d == NONE {
-            return p;
+            return Printed {
+                at: p,
+                dests: printed,
+            };
         }
-        p = one(engine, d, d == first, values, audio, span, out, p);
-        d = least(dests, trace_output_figures::sum(d, 1));
+        let lines = one(engine, d, d == first, values, audio, span, out, p);
+        p = lines.at;
+        printed[k] = lines.of;
         k += 1usize;
     }
-    p
+    Printed {
+        at: p,
+        dests: printed,
+    }
 }
 
 // a destination without a plan, after a blank
@@ -443,7 +517,7 @@ fn chunks_at(program: Program, print: Print) -> usize {
         return NONE;
     }
     let controls = dests_of(program, true);
-    least(&controls, 0)
+    trace_print_order::least(&controls, 0)
 }
 
 fn all(
@@ -460,8 +534,19 @@ fn all(
     let print = span.print;
     let first = chunks_at(program, print);
     let with_plans = dests_of(program, false);
-    let p = planned(engine, &with_plans, first, values, audio, span, out, at);
-    unmodulated(&with_plans, n, print, out, p)
+    let order = trace_print_order::in_order(&with_plans);
+    let printed = planned(
+        engine,
+        &with_plans,
+        &order,
+        first,
+        values,
+        audio,
+        span,
+        out,
+        at,
+    );
+    unmodulated(&with_plans, n, print, out, printed.at)
 }
 
 fn is_silent(print: Print) -> bool {
@@ -529,8 +614,8 @@ fn outputs_code(engine: Engine, values: &[f32], audio: &[f32]) -> u8 {
     agreed(rows, ends_code(engine, values, audio))
 }
 
-// The outputs of the destinations below `dests` (the session's registry) and of those that the installed program was compiled against; audio rows from
-// `start` to before `end`. Row 14 is judged whatever is printed.
+// The outputs of the destinations below `dests` (the session's registry) and of those that the installed program was
+// compiled against; audio rows from `start` to before `end`. Row 14 is judged whatever is printed.
 pub fn outputs(
     engine: Engine,
     dests: usize,
