@@ -1,5 +1,7 @@
 // The audio rows of a chunk: plan after plan, frame after frame, the slews moving by one sample (engine.rs 940-1006, 1224-1294; document 01, Chunk and value). The
 // definitions are in model's specs/Audio. A contract holds of every state that has what the function is handed: specs/Rows and specs/Work say what that is.
+#![tactic(auto)]
+
 ghost use Rattle.std.specs.Prelude.{◌≡◌, true, false, not, cond, ◌&&◌, ◌||◌, List, ℕ, ◌+◌, ◌*◌, ◌≤◌, ◌<◌, eqb, length, get_or, Float};
 ghost use Rattle.std.specs.Float.{inf};
 ghost use Rattle.std.specs.Float.Ieee.{lt};
@@ -261,7 +263,7 @@ pub fn frames(
 
 // What the audio of a chunk is worked out from, besides the lent numbers: the plans, of which `plans` are there and the first `control` have no audio, the routes,
 // scene and signals, how many chunks a plan has room for, and how many frames.
-#[derive(Drop)]
+#[derive(Clone, Copy)]
 pub struct Work {
     pub plan: [Plan; SLOTS],
     pub routes: [Route; SLOTS],
@@ -433,7 +435,7 @@ pub fn sweep_plans(
 
 // What the plans of a chunk that have audio are swept by, besides the lent numbers: the field, the plans, of which the first `control` have no audio and `count` have,
 // the gains as set, and what each route is swept by.
-#[derive(Drop)]
+#[derive(Clone, Copy)]
 pub struct Sweeping {
     pub field: Field,
     pub plan: [Plan; SLOTS],

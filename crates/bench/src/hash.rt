@@ -11,7 +11,7 @@ fn after_byte(h: u64, b: u64) -> u64 {
 
 // the hash after a number
 fn after(h: u64, x: f32) -> u64 {
-    let n = hex::bits_of(x) as u64;
+    let n = hex_words::bits_of(x) as u64;
     let a = after_byte(h, n % 256);
     let b = after_byte(a, n / 256 % 256);
     let c = after_byte(b, n / 65536 % 256);

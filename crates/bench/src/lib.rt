@@ -1,4 +1,6 @@
 // Scenarios for another program to time.
+#![tactic(auto)]
+
 mod hash;
 mod scene;
 mod work;

@@ -14,7 +14,7 @@ pub const SIGNALS: usize = 64;
 // slews and an aux, and destinations feed; voices there are, and voices that sound; frames of a block, and buffers that
 // the signals share; which call is made (1 `set_base`, 2 `set_held`, 3 `note_on`), how often, and how many blocks then;
 // what else is so, one of the numbers below.
-#[derive(Drop)]
+#[derive(Clone, Copy)]
 pub struct Scene {
     pub slots: usize,
     pub dests: usize,
@@ -44,21 +44,21 @@ const GLOBAL: usize = 4;
 const PRESET: usize = 5;
 
 // What a scenario's program is compiled of, and the first refusal.
-#[derive(Drop)]
+#[derive(Clone, Copy)]
 pub struct Gathered {
     pub code: u8,
     pub wiring: Wiring,
 }
 
 // A registry of sources, and the first refusal.
-#[derive(Drop)]
+#[derive(Clone, Copy)]
 struct Named {
     code: u8,
     sources: Sources,
 }
 
 // A registry of destinations, and the first refusal.
-#[derive(Drop)]
+#[derive(Clone, Copy)]
 struct Reached {
     code: u8,
     dests: Destinations,

@@ -1,6 +1,8 @@
 // A block of a state and the lent memories: load, draws, a step a chunk (tick, chunk rows, audio rows, glides), phase and marks (engine.rs 547-611, 756-769,
 // 804-1011; document 01, Chunk and value). The definitions are in model's specs/Process. A contract equates the world after the call with the definition of the
 // world before it, whatever the memories are that the function is not lent.
+#![tactic(auto)]
+
 ghost use Rattle.std.specs.Prelude.{◌≡◌, true, false, cond, ◌&&◌, List, ℕ, ◌+◌, ◌*◌, ◌≤◌, ◌<◌, min, eqb, length, Float};
 ghost use Rattle.config.specs.Sizes.{period};
 ghost use Rattle.number.specs.Number.{zero32, nearest32};
@@ -313,7 +315,7 @@ fn each_step(
 // ---- the steps of a block whose plans all have audio and are swept
 
 // What moves there from chunk to chunk: whether the program has ticked, and the notes.
-#[derive(Drop)]
+#[derive(Clone, Copy)]
 pub struct Moving {
     pub primed: bool,
     pub velocity: Notes,
@@ -321,7 +323,7 @@ pub struct Moving {
 }
 
 // What glides go by: the marks of the sources, the lane stride, how many sources and voices.
-#[derive(Drop)]
+#[derive(Clone, Copy)]
 pub struct Glides {
     pub mark: [SourceMark; SOURCES],
     pub stride: usize,
@@ -562,7 +564,7 @@ pub fn closed(state: State, block: Block, len: usize) -> State
 // ---- the block
 
 // All that a block moves of a state.
-#[derive(Drop)]
+#[derive(Clone, Copy)]
 pub struct Small {
     pub primed: bool,
     pub draw: u64,

@@ -1,4 +1,6 @@
 // The chunks of a block. The definitions are in model's specs/Chunks; a block is any two numbers, so that no sum here goes past its end.
+#![tactic(auto)]
+
 ghost use Rattle.std.specs.Prelude.{◌≡◌, ◌&&◌, ◌||◌, ◌+◌, ◌-◌, ◌*◌, ◌/◌, ◌≤◌, ◌<◌, min, eqb};
 ghost use Rattle.config.specs.Sizes.{period};
 ghost use Rattle.model.specs.Chunks.{chunk_total, chunk_start, chunk_phase, chunk_of};

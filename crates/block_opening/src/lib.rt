@@ -1,5 +1,7 @@
 // What opens and closes a block: its judgement, the load, the draws, the glides and the chunk's rows. Functions take the parts of a state that they read;
 // the laws that join their definitions to model's are in proofs/.
+#![tactic(auto)]
+
 ghost use Rattle.std.specs.Prelude.{◌≡◌, cond, ◌+◌, ◌*◌, ◌≤◌, ◌<◌, min, ltb, length};
 ghost use Rattle.draw.specs.Xorshift.{draw_of};
 ghost use Rattle.voice.specs.Notes.{moving};
@@ -21,7 +23,7 @@ use voice::{Glide, Notes, Voices};
 // ---- rows 1, 13 and 14
 
 // The numbers of a state by which memories are measured, as they stand there.
-#[derive(Drop)]
+#[derive(Clone, Copy)]
 pub struct Counts {
     pub voices: usize,
     pub frames: usize,
@@ -33,7 +35,7 @@ pub struct Counts {
 }
 
 // The lengths of what is lent.
-#[derive(Drop)]
+#[derive(Clone, Copy)]
 pub struct Lengths {
     pub held: usize,
     pub globals: usize,
@@ -236,7 +238,7 @@ pub fn set_load(globals: &mut [f32], mark: [SourceMark; SOURCES], n: usize, x: f
 // ---- glides
 
 // Which note value: the sources that hold it.
-#[derive(Drop)]
+#[derive(Clone, Copy)]
 pub enum NoteValue {
     Velocity,
     Key,

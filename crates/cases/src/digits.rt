@@ -3,7 +3,7 @@ ghost use Rattle.std.specs.Prelude.{◌≡◌, ◌≤◌};
 ghost use Rattle.cases.specs.Numbers.{grown, with_digit, after_digits, after, after_all, case_of};
 
 // What the bytes so far are. A number of 100 or more stays what it is.
-#[derive(Drop)]
+#[derive(Clone, Copy)]
 pub enum Seen {
     // no bytes
     Nothing,

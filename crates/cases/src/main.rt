@@ -1,5 +1,7 @@
 // Reads a decimal case number from standard input and prints what document 01 has for that case, 5, or 10 with its
 // note, and document 02 for 13 (C-12).
+#![tactic(auto)]
+
 ghost use Rattle.std.specs.Prelude.{◌<◌};
 
 mod digits;

@@ -1,5 +1,7 @@
 // A program from what it is compiled from (document 01, Plan and route; program.rs 296-558). The definitions are in
 // model's specs/Plans.
+#![tactic(auto)]
+
 ghost use Rattle.std.specs.Prelude.{◌≡◌, [], map, ◌≤◌, length};
 ghost use Rattle.state.specs.declared.Slot.{Slot};
 ghost use Rattle.state_filled.specs.Filled.{candidates_in, readers_in, numbers_in, plans_of, routes_of};

@@ -1,5 +1,7 @@
 // The slots that become routes, and those that are left out (document 01, Slot; program.rs 560-591). The definitions
 // are in model's specs/Wiring.
+#![tactic(auto)]
+
 ghost use Rattle.std.specs.Prelude.{◌≡◌, true, ◌<◌};
 ghost use Rattle.config.specs.Sizes.{slots};
 ghost use Rattle.state.specs.declared.AuxSource.TheVariants as X;

@@ -1,5 +1,7 @@
 // Which destinations are in use, what they feed, and who is read by which route (document 01, Plan and route;
 // program.rs 296-357). The definitions are in model's specs/Feeds.
+#![tactic(auto)]
+
 ghost use Rattle.std.specs.Prelude.{◌≡◌, cond, ◌&&◌, ◌||◌, map, eqb};
 ghost use Rattle.state.specs.declared.Feed.TheVariants as F;
 ghost use Rattle.state.specs.declared.Feeder.TheVariants as E;

@@ -1,5 +1,7 @@
 // The order of plans (document 01, Plan and route; program.rs 350-372). The definitions are in model's specs/Feeds and,
 // over lists in arrays, in specs/Marks.
+#![tactic(auto)]
+
 ghost use Rattle.std.specs.Prelude.{◌≡◌, false, ◌&&◌, map, ◌<◌, eqb, get_or, take, replicate};
 ghost use Rattle.list.specs.Fill.{fill};
 ghost use Rattle.feed.specs.Marks.{pairs};
@@ -14,7 +16,7 @@ use state::{Feeder, Reader, Used};
 use state_filled::{Numbers, Readers, UsedDests};
 
 // How many plans are control plans, and the destinations of all plans in their order.
-#[derive(Drop)]
+#[derive(Clone, Copy)]
 pub struct PlanOrder {
     pub control: usize,
     pub order: Numbers,

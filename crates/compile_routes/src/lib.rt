@@ -1,5 +1,7 @@
 // The routes of a program (document 01, Plan and route; program.rs 409-519). The definitions are in model's
 // specs/Routes and specs/Plans.
+#![tactic(auto)]
+
 ghost use Rattle.std.specs.Prelude.{◌≡◌, not, ◌&&◌, ◌||◌, ◌≤◌, eqb, length, get_or};
 ghost use Rattle.config.specs.Sizes.{slots};
 ghost use Rattle.feed.specs.Numbers.{index_of};

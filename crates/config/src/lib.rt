@@ -1,4 +1,6 @@
 // The sizes of the core, and the configuration that an engine and its programs share.
+#![tactic(auto)]
+
 ghost use Rattle.std.specs.Prelude.{◌≡◌, min};
 ghost use Rattle.config.specs.Sizes.{most_voices, most_frames, lane_stride, most_chunks};
 ghost use Rattle.config.specs.Configuration.{config_code};
@@ -20,7 +22,7 @@ pub const FRAMES: usize = 4096;
 pub const SIGNAL_STRIDE: usize = 256;
 
 // What an engine and its programs are sized for.
-#[derive(Drop)]
+#[derive(Clone, Copy)]
 pub struct Config {
     pub sample_rate: f32,
     pub max_frames: usize,

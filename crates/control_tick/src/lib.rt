@@ -1,6 +1,8 @@
 // A control tick: the turn of each control plan, in the lent values (engine.rs 843-935; document 01, Chunk and value). The definitions are in model's specs/Tick.
 // Plans of which every route is plain and reads samples have their turns in crate plan_turning, the others here. A contract holds of every state and environment that
 // have what the function is handed: specs/Turn and specs/Rounds say what that is.
+#![tactic(auto)]
+
 ghost use Rattle.std.specs.Prelude.{◌≡◌, List, ℕ, ◌≤◌, ◌<◌, length, Float};
 ghost use Rattle.config.specs.Sizes.{slots};
 ghost use Rattle.state.specs.declared.State.{State};
@@ -100,7 +102,7 @@ pub fn job_of(
 
 // What a tick is worked out from, besides the lent numbers: the plans, of which `plans` are there and the first `control` are control plans, the routes, scene and
 // signals, how many chunks a plan has room for, the phase, and which routes are simple.
-#[derive(Drop)]
+#[derive(Clone, Copy)]
 pub struct Work {
     pub plan: [Plan; SLOTS],
     pub control: usize,

@@ -1,5 +1,7 @@
 // Curves: the public calls on tables. The definitions that contracts cite are in specs/CurveCalls.antt and in the crate
 // curve_table.
+#![tactic(auto)]
+
 ghost use Rattle.std.specs.Prelude.{◌≡◌};
 ghost use Rattle.curve_table.specs.Curve.{is_linear};
 ghost use Rattle.curve.specs.CurveCalls.{lookup_call, slew_call, diagonal_table};
@@ -7,14 +9,14 @@ ghost use Rattle.curve.specs.CurveCalls.{lookup_call, slew_call, diagonal_table}
 use curve_table::{Curve, POINTS, Seconds};
 
 // a number by which the call is refused, or 0 and the table's value
-#[derive(Drop)]
+#[derive(Clone, Copy)]
 pub struct Looked {
     pub code: u8,
     pub value: f32,
 }
 
 // a number by which the call is refused, or 0 and the curve's seconds
-#[derive(Drop)]
+#[derive(Clone, Copy)]
 pub struct Slewed {
     pub code: u8,
     pub seconds: Seconds,

@@ -1,4 +1,6 @@
 // Tables of 513 numbers and the curves that name them. The definitions that contracts cite are in specs/Table.antt.
+#![tactic(auto)]
+
 ghost use Rattle.std.specs.Prelude.{◌≡◌, ◌≤◌, length};
 ghost use Rattle.curve_table.specs.Table.{points, position, cell_at, cell_of, lookup_of, allowed, all_allowed};
 ghost use Rattle.curve_table.specs.Table.{table_code};
@@ -10,14 +12,14 @@ pub const POINTS: usize = 513;
 pub const LAST_CELL: usize = 511;
 
 // a slot's curve: linear, or a table, whose numbers stand elsewhere, with its seconds
-#[derive(Drop)]
+#[derive(Clone, Copy)]
 pub enum Curve {
     Linear,
     Table { rise: f32, fall: f32 },
 }
 
 // the seconds that full scale takes
-#[derive(Drop)]
+#[derive(Clone, Copy)]
 pub struct Seconds {
     pub rise: f32,
     pub fall: f32,

@@ -1,5 +1,7 @@
 // Decimals of a session: a word as the nearest f32 (docs/SESSIONS.md, How a line reads). The definitions that contracts
 // cite are in specs/Decimal.antt.
+#![tactic(auto)]
+
 ghost use Rattle.std.specs.Prelude.{◌≡◌, true, false, cond, ◌&&◌, ◌||◌, ◌+◌, ◌-◌, ◌*◌, ◌^◌, ◌≤◌, ◌<◌, min, ltb, eqb, length, drop};
 ghost use Rattle.std.specs.Float.{binary32};
 ghost use Rattle.std.specs.Float.Ieee.{neg, round};
@@ -9,7 +11,7 @@ ghost use Rattle.decimal.specs.Decimal.{has_point, after_point, mark, power, dig
 ghost use Rattle.decimal.specs.Decimal.{given, beyond, none, times, over, scaled, valued, decimal_of};
 
 // What a word is as a decimal: a value, or a decimal outside what is read, or none.
-#[derive(Drop)]
+#[derive(Clone, Copy)]
 pub struct DecimalWord {
     pub good: bool,
     pub outside: bool,
@@ -292,7 +294,7 @@ fn power_of_five(k: u64) -> u64
 }
 
 // A number doubled some times.
-#[derive(Drop)]
+#[derive(Clone, Copy)]
 struct Doubled {
     value: u64,
     steps: u64,

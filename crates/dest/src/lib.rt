@@ -1,5 +1,7 @@
 // The registry of destinations (dest.rs; document 01, Destination entry). The definitions that contracts cite are in
 // specs/.
+#![tactic(auto)]
+
 ghost use Rattle.std.specs.Prelude.{◌≡◌};
 ghost use Rattle.state.specs.Registry.{dest_count, same_target};
 ghost use Rattle.dest.specs.Entries.{no_dests, dests_empty, get_dest, find_dest, is_found};
@@ -28,7 +30,7 @@ use state::{Dest, Destinations, Feed, Rate, Scope, Target};
 
 // The answer of add. Code 0: the entry is number id of the registry. Else the number of the row, id 0, and the registry
 // as it came.
-#[derive(Drop)]
+#[derive(Clone, Copy)]
 pub struct DestAdded {
     pub code: u8,
     pub id: usize,
@@ -36,21 +38,21 @@ pub struct DestAdded {
 }
 
 // The entry of a number, or none.
-#[derive(Drop)]
+#[derive(Clone, Copy)]
 pub enum DestEntry {
     Nothing,
     Entry(Dest),
 }
 
 // The number of the entry that has a target, or none.
-#[derive(Drop)]
+#[derive(Clone, Copy)]
 pub enum DestFound {
     Nothing,
     At(usize),
 }
 
 // An entry that is made by steps; add judges it.
-#[derive(Drop)]
+#[derive(Clone, Copy)]
 pub struct DestInfo {
     pub target: Target,
     pub scope: Scope,

@@ -1,5 +1,7 @@
 // Row 6 at its edges for the calls that no session reaches: a matrix that is loaded or sorted, a program that is
 // installed, a curve's seconds. Prints a line for each call, with the number that it hands back.
+#![tactic(auto)]
+
 ghost use Rattle.std.specs.Prelude.{◌≤◌, length};
 
 use config::{Config, SLOTS};
@@ -40,21 +42,21 @@ fn last_slot(amount: u32, output: u32, rise: u32, fall: u32) -> Matrix {
     let aux = Pick::Nothing;
     let source_curve = Curve::Linear;
     let aux_curve = Curve::Table {
-        rise: hex::of_bits(rise),
-        fall: hex::of_bits(fall),
+        rise: hex_words::of_bits(rise),
+        fall: hex_words::of_bits(fall),
     };
     let polarity = Polarity::Unipolar;
     let destination = Aim::Nothing;
     let slot = Slot {
         source,
         source_curve,
-        amount: hex::of_bits(amount),
+        amount: hex_words::of_bits(amount),
         polarity,
         destination,
         aux,
         aux_invert: false,
         aux_curve,
-        output: hex::of_bits(output),
+        output: hex_words::of_bits(output),
         bypass: true,
     };
     let mut next = matrix::new();
@@ -111,7 +113,7 @@ fn store(numbers: &mut [f32], at: usize, bits: u32) {
     if numbers.len() <= at {
         return;
     }
-    numbers[at] = hex::of_bits(bits);
+    numbers[at] = hex_words::of_bits(bits);
 }
 
 // how many of the first n numbers there are
@@ -168,8 +170,8 @@ fn program(voices: usize, amount: u32, output: u32) -> Program {
     let made = program::empty(config(voices));
     let mut next = made.program;
     let mut gains = next.gains;
-    gains.amount[SLOTS - 1] = hex::of_bits(amount);
-    gains.output[SLOTS - 1] = hex::of_bits(output);
+    gains.amount[SLOTS - 1] = hex_words::of_bits(amount);
+    gains.output[SLOTS - 1] = hex_words::of_bits(output);
     next.gains = gains;
     next
 }
@@ -206,8 +208,8 @@ fn programs() {
 
 fn slewed(rise: u32, fall: u32) -> u8 {
     let made = curve::slew(Curve::Table {
-        rise: hex::of_bits(rise),
-        fall: hex::of_bits(fall),
+        rise: hex_words::of_bits(rise),
+        fall: hex_words::of_bits(fall),
     });
     made.code
 }

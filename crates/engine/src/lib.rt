@@ -1,5 +1,7 @@
 // The engine (docs/CALLS.md). Every `pub fn` is a public call; definitions stand in the crate model, over the state and
 // the lists that the lent slices hold.
+#![tactic(auto)]
+
 ghost use Rattle.std.specs.Prelude.{◌≡◌, [], not, ◌||◌};
 ghost use Rattle.model.specs.World.{world_of};
 ghost use Rattle.model.specs.Settings.{refused_state, new_engine, unbound_signals, bind_signal, set_held, set_voice_held};
@@ -24,28 +26,28 @@ use state::{
 };
 
 // An engine; its memories are lent with each call.
-#[derive(Drop)]
+#[derive(Clone, Copy)]
 pub struct Engine {
     state: State,
 }
 
 // A new engine, or the row by which it is refused, with the engine for rate 1, 0 frames, 0 voices and nothing
 // registered.
-#[derive(Drop)]
+#[derive(Clone, Copy)]
 pub struct Made {
     pub code: u8,
     pub engine: Engine,
 }
 
 // The engine after a call, or as it came with the row by which the call is refused.
-#[derive(Drop)]
+#[derive(Clone, Copy)]
 pub struct Done {
     pub engine: Engine,
     pub code: u8,
 }
 
 // The engine with the program installed and the one that it replaces; on a refusal both as they came.
-#[derive(Drop)]
+#[derive(Clone, Copy)]
 pub struct Swapped {
     pub code: u8,
     pub engine: Engine,
@@ -315,7 +317,7 @@ pub fn bind(signals: Signals, source: usize, at: usize, len: usize, stride: usiz
 // ---- notes
 
 // A note that starts on a voice.
-#[derive(Drop)]
+#[derive(Clone, Copy)]
 pub struct NoteOn {
     pub key: f32,
     pub velocity: f32,
@@ -351,7 +353,7 @@ fn note_finite(note: NoteOn) -> bool
 }
 
 // Of a program, what a note goes by.
-#[derive(Drop)]
+#[derive(Clone, Copy)]
 struct Curves {
     velocity: NoteCurve,
     key: NoteCurve,

@@ -1,5 +1,7 @@
 // What notes write into an engine's held numbers, and what they leave of what sounds. The definitions that contracts
 // cite are in specs/Noting.antt and in the crate model.
+#![tactic(auto)]
+
 ghost use Rattle.std.specs.Prelude.{◌≡◌, true, cond, not, ◌||◌, [], ◌∷◌, ◌+◌, ◌*◌, ◌≤◌, ◌<◌, min, eqb, leb, ltb, set};
 ghost use Rattle.config.specs.Sizes.{most_sources, most_voices, lane_stride};
 ghost use Rattle.draw.specs.Xorshift.{step, draw_of};
@@ -22,7 +24,7 @@ use voice::{Legato, Marks, Notes, Voices};
 // ---- the lane of a voice
 
 // How many sources there are, the numbers from one to the next, and the voice's lane.
-#[derive(Drop)]
+#[derive(Clone, Copy)]
 pub struct Lane {
     pub sources: usize,
     pub stride: usize,
@@ -369,7 +371,7 @@ fn notes_with(
 // ---- a note
 
 // What a note changes of an engine.
-#[derive(Drop)]
+#[derive(Clone, Copy)]
 pub struct Sounding {
     pub voices: Voices,
     pub marks: Marks,
@@ -380,7 +382,7 @@ pub struct Sounding {
 }
 
 // What a note sets: its values with their time at a sample rate, and whether it takes the velocity.
-#[derive(Drop)]
+#[derive(Clone, Copy)]
 pub struct Setting {
     pub legato: bool,
     pub time: Legato,

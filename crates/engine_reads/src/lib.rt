@@ -1,4 +1,6 @@
 // What is read of an engine: places, parts and numbers of its outputs. The definitions are in model's specs/Outputs.
+#![tactic(auto)]
+
 ghost use Rattle.std.specs.Prelude.{◌≡◌, false, cond, ◌&&◌, ◌||◌, [], ◌∷◌, ◌+◌, ◌-◌, ◌*◌, ◌≤◌, ◌<◌, min, leb, ltb, length, get_or, take};
 ghost use Rattle.std.specs.Float.{nan};
 ghost use Rattle.config.specs.Sizes.{slots, period, most_voices, most_frames, most_destinations, most_stride, most_chunks};
@@ -170,7 +172,7 @@ fn and(a: bool, b: bool) -> bool
 
 // Where the numbers of a destination stand: whether its plan is at audio or at control rate, per voice, how wide a row
 // is, and where the chunks' "from" and "to" start in the values and the audio rows in the audio memory.
-#[derive(Drop)]
+#[derive(Clone, Copy)]
 pub struct Spot {
     pub audio: bool,
     pub control: bool,
@@ -590,7 +592,7 @@ pub fn ramp(state: State, values: &[f32], dest: usize, voice: usize, out: &mut [
 // ---- every destination's latest number
 
 // What is latest: whether there is a chunk, its number and its last frame.
-#[derive(Drop)]
+#[derive(Clone, Copy)]
 pub struct Last {
     pub some: bool,
     pub chunk: usize,

@@ -1,5 +1,7 @@
 // What an engine's making, its settings and its swap judge and write, by numbers and small structs (engine.rs 273-446).
 // The definitions are in model's specs/Settings.
+#![tactic(auto)]
+
 ghost use Rattle.std.specs.Prelude.{◌≡◌, false, cond, map, ◌+◌, ◌*◌, ◌<◌, ◌≤◌, min, max, eqb, length, get_or, set, replicate};
 ghost use Rattle.config.specs.Sizes.{most_sources, most_destinations, most_voices, most_frames, lane_stride};
 ghost use Rattle.list.specs.Rows.{on_row};

@@ -1,4 +1,6 @@
 // The greedy order of a feed relation over places (document 01, Plan and route): specs/Order.antt has the definition.
+#![tactic(auto)]
+
 ghost use Rattle.std.specs.Prelude.{◌≡◌, ◌<◌, ◌≤◌, min};
 ghost use Rattle.config.specs.Sizes.{slots};
 ghost use Rattle.feed.specs.Numbers.{first_or};
@@ -11,7 +13,7 @@ use config::SLOTS;
 pub const PAIRS: usize = SLOTS * SLOTS;
 
 // Places in the order in which they are worked out: the first `count` of `place`, and zeros after them.
-#[derive(Drop)]
+#[derive(Clone, Copy)]
 pub struct Order {
     pub place: [usize; SLOTS],
     pub count: usize,

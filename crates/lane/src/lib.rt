@@ -1,5 +1,7 @@
 // One route's value in a lane, and its slews afterwards (engine.rs 1013-1039, 1313-1399, 1434-1446; document 01, Chunk and value). The definitions are in model's
 // specs/RouteValue and specs/Slews. A contract holds of every environment that has what the function is handed: specs/View says what that is.
+#![tactic(auto)]
+
 ghost use Rattle.std.specs.Prelude.{◌≡◌, not, ◌&&◌, ◌||◌, ℕ, ◌+◌, ◌*◌, ◌≤◌, ◌<◌, ltb, leb};
 ghost use Rattle.config.specs.Sizes.{slots};
 ghost use Rattle.state.specs.declared.Aux.TheVariants as X;
@@ -19,7 +21,7 @@ use state::{Aux, Gain, Input, Read, Route, SignalPart, Slew};
 
 // What a route's lanes are worked out from at one frame, besides the lent numbers: its own rows start at `own`, its inputs read the parts `source` and `aux`
 // of the signals, and `amount` and `output` are its slot's as set.
-#[derive(Drop)]
+#[derive(Clone, Copy)]
 pub struct View {
     pub point: Point,
     pub own: usize,

@@ -1,5 +1,7 @@
 // One input of a route in one lane, and the lanes that a route is worked out in and added to (engine.rs 803-841, 1296-1343, 1401-1478; document 01, Chunk and
 // value). The definitions are in model's specs/Env, specs/Input and specs/Lanes. A contract holds of every environment that has what the function is handed.
+#![tactic(auto)]
+
 ghost use Rattle.std.specs.Prelude.{◌≡◌, false, ◌+◌, ◌-◌, ◌*◌, ◌≤◌, ◌<◌, ltb, leb, get_or};
 ghost use Rattle.config.specs.Sizes.{most_voices};
 ghost use Rattle.list.specs.Rows.{row_at};
@@ -20,7 +22,7 @@ use state::{Gains, Input, Read, SignalPart, Slew};
 use voice::{Newest, Voices};
 
 // What lanes are worked out from at one frame, besides the lent numbers.
-#[derive(Drop)]
+#[derive(Clone, Copy)]
 pub struct Scene {
     pub stride: usize,
     pub voices: Voices,
@@ -34,7 +36,7 @@ pub struct Scene {
 }
 
 // What an input is read by: the sizes, the frame, and the samples by which slews move.
-#[derive(Drop)]
+#[derive(Clone, Copy)]
 pub struct Point {
     pub stride: usize,
     pub chunks: usize,
@@ -210,7 +212,7 @@ fn signal_in(samples: &[f32], stride: usize, frame: usize, voice: bool, lane: us
 }
 
 // A signal: its part of the lent samples, with its stride.
-#[derive(Drop)]
+#[derive(Clone, Copy)]
 pub struct Signal<'a> {
     pub samples: &'a [f32],
     pub stride: usize,
@@ -355,7 +357,7 @@ fn slewed(steps: f32, snap: f32, prev: f32, slew: Slew, u: f32) -> f32
 }
 
 // What an input starts from in a lane: whether its slew ends at it (1 or 0), its slew before, and its random number.
-#[derive(Drop)]
+#[derive(Clone, Copy)]
 pub struct Lead {
     pub snap: f32,
     pub prev: f32,
@@ -406,7 +408,7 @@ pub fn input_in(
 // ---- lanes
 
 // A lane, or none.
-#[derive(Drop)]
+#[derive(Clone, Copy)]
 pub enum Lane {
     At(usize),
     Nowhere,

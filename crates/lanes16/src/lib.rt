@@ -1,5 +1,7 @@
 // A route's inputs and its value in sixteen lanes, stage by stage (engine.rs 1013-1039, 1345-1478; document 01, Chunk and value). The definitions are in model's
 // specs/Input and specs/RouteValue. A contract holds of every environment that has what the function is handed.
+#![tactic(auto)]
+
 ghost use Rattle.std.specs.Prelude.{◌≡◌, true, cond, List, ℕ, ◌+◌, ◌*◌, ◌≤◌, ◌<◌, ltb, length, get_or, Float};
 ghost use Rattle.std.specs.Float.Ieee.{le};
 ghost use Rattle.config.specs.Sizes.{lanes};

@@ -1,5 +1,7 @@
 // How much memory a program needs (docs/CALLS.md, Memories; document 01, row 14). The definitions are in model's
 // specs/Need; counts above their limits count as these.
+#![tactic(auto)]
+
 ghost use Rattle.std.specs.Prelude.{◌≡◌, ◌≤◌, min};
 ghost use Rattle.config.specs.Sizes.{slots, most_voices, most_frames, most_chunks};
 ghost use Rattle.model.specs.Need.{values_rows, values_need, audio_need};

@@ -1,4 +1,6 @@
 // Reads, fills and copies of lent numbers.
+#![tactic(auto)]
+
 ghost use Rattle.std.specs.Prelude.{◌≡◌, ◌⊎◌, ◌+◌, ◌-◌, ◌≤◌, length, get_or, replicate};
 ghost use Rattle.list.specs.Part.{part, on_part};
 

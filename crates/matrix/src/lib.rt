@@ -1,5 +1,7 @@
 // The matrix as data: its slots, their edits, and the tables lent with them. The definitions that contracts cite are in
 // specs/.
+#![tactic(auto)]
+
 ghost use Rattle.std.specs.Prelude.{◌≡◌, [], ◌∷◌, ◌<◌};
 ghost use Rattle.refusal.specs.Judge.{judged};
 ghost use Rattle.config.specs.Sizes.{slots};
@@ -23,37 +25,37 @@ use state::{Matrix, NoteCurve, Pick, Polarity, Slot, Target};
 
 // ---- answers
 
-#[derive(Drop)]
+#[derive(Clone, Copy)]
 pub enum CurveSlot {
     Source,
     Aux,
 }
 
-#[derive(Drop)]
+#[derive(Clone, Copy)]
 pub enum NoteSlot {
     Velocity,
     Key,
 }
 
-#[derive(Drop)]
+#[derive(Clone, Copy)]
 pub enum SortBy {
     Source,
     Destination,
 }
 
-#[derive(Drop)]
+#[derive(Clone, Copy)]
 pub struct SlotRead {
     pub code: u8,
     pub slot: Slot,
 }
 
-#[derive(Drop)]
+#[derive(Clone, Copy)]
 pub struct Edited {
     pub code: u8,
     pub matrix: Matrix,
 }
 
-#[derive(Drop)]
+#[derive(Clone, Copy)]
 pub enum Place {
     At(usize),
     Full,
@@ -61,26 +63,26 @@ pub enum Place {
     Refused,
 }
 
-#[derive(Drop)]
+#[derive(Clone, Copy)]
 pub struct Placed {
     pub code: u8,
     pub place: Place,
     pub matrix: Matrix,
 }
 
-#[derive(Drop)]
+#[derive(Clone, Copy)]
 pub struct Removed {
     pub count: usize,
     pub matrix: Matrix,
 }
 
-#[derive(Drop)]
+#[derive(Clone, Copy)]
 pub struct PolarityMade {
     pub code: u8,
     pub polarity: Polarity,
 }
 
-#[derive(Drop)]
+#[derive(Clone, Copy)]
 pub struct Depth {
     pub code: u8,
     pub amount: f32,

@@ -1,5 +1,7 @@
 // What dragging onto a control makes of it, and the LFOs that no slot uses. The definitions that contracts cite are in
 // specs/.
+#![tactic(auto)]
+
 ghost use Rattle.std.specs.Prelude.{◌≡◌};
 ghost use Rattle.matrix_editing.specs.Drag.{both_finite, centred, two_way, polarity_at, one_way_room, room_at, depth_at};
 ghost use Rattle.matrix_editing.specs.Drag.{dragged_amount};

@@ -1,1 +1,2 @@
 // What the calls mean: definitions and theorems, in specs/ and proofs/. There is no code here.
+#![tactic(auto)]

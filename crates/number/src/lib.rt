@@ -1,5 +1,7 @@
 // Single numbers of 32 bits: what the language's own operators leave out. The definitions that contracts cite are in
 // specs/Number.antt.
+#![tactic(auto)]
+
 ghost use Rattle.std.specs.Prelude.{◌≡◌};
 ghost use Rattle.number.specs.Number.{finite, max32, min32, hold, clamp_to, abs_of, whole_part, nearest32, sticky};
 ghost use Rattle.number.specs.Number.{same};

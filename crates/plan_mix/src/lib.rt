@@ -1,5 +1,7 @@
 // The sums of a plan, at a tick or at a frame of audio, and the new slews of its routes, in one pass over the routes: each input is worked out once, sixteen lanes at a time where plan and
 // route are per voice (engine.rs 843-935, 1313-1399; document 01, Chunk and value). The definitions are in model's specs/Sums and specs/Slews.
+#![tactic(auto)]
+
 ghost use Rattle.std.specs.Prelude.{◌≡◌, true, false, cond, List, ℕ, ◌+◌, ◌*◌, ◌/◌, ◌≤◌, ◌<◌, length, Float};
 ghost use Rattle.config.specs.Sizes.{slots, lanes};
 ghost use Rattle.number.specs.Number.{plus};

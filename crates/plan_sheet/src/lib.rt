@@ -1,5 +1,7 @@
 // The sheet of a block: of each plan, each of whose routes is swept, what its rows are swept by, found once a block and
 // lent from then on as numbers, a row a plan (engine.rs 951-1006). The definitions are in specs/Sheet.
+#![tactic(auto)]
+
 ghost use Rattle.std.specs.Prelude.{◌≡◌, true, ℕ, ◌+◌, ◌*◌, ◌≤◌, ◌<◌, length};
 ghost use Rattle.config.specs.Sizes.{slots};
 ghost use Rattle.plan_sheet.specs.Sheet.{numbers_size, words_size, put_numbers, put_words, base_at, pass_at, Sheet};

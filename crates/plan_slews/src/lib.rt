@@ -1,6 +1,8 @@
 // The slews of a plan's routes after it was worked out, and a plan's new rows, put where they lie (engine.rs 843-935, 1326-1343, 1434-1446; document 01, Chunk and
 // value). The definitions are in model's specs/Tick and specs/Slews. A contract holds of every environment that has what the function is handed: specs/Seen says
 // what that is.
+#![tactic(auto)]
+
 ghost use Rattle.std.specs.Prelude.{◌≡◌, false, ℕ, ◌+◌, ◌*◌, ◌≤◌, ◌<◌, length, set, get_or, Float};
 ghost use Rattle.std.specs.Float.{nan};
 ghost use Rattle.config.specs.Sizes.{slots};
@@ -145,7 +147,7 @@ pub fn kept(phase: usize, primed: bool, starts: bool) -> bool
 }
 
 // What a tick's new numbers go by, besides the sums: the phase, the plan's scope, and of the scene the voices that start.
-#[derive(Drop)]
+#[derive(Clone, Copy)]
 pub struct Tick {
     pub phase: usize,
     pub voice: bool,
@@ -293,7 +295,7 @@ fn from_each(
 // ---- new slews of a route
 
 // What says in which lanes a route's slews move, and which of them end at their input.
-#[derive(Drop)]
+#[derive(Clone, Copy)]
 pub struct Motion {
     pub voices: Voices,
     pub fresh: [bool; VOICES],

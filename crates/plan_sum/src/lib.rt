@@ -1,5 +1,7 @@
 // The sum of a destination, a row of lanes at a time: the base, the plain routes, then the others (engine.rs 850-905, 1060-1112, 1313-1343; document 01, Chunk and
 // value). The definitions are in model's specs/Sums. A contract holds of every environment and mix that have what the function is handed: specs/Job says what that is.
+#![tactic(auto)]
+
 ghost use Rattle.std.specs.Prelude.{◌≡◌, true, false, cond, ◌&&◌, List, ℕ, ◌+◌, ◌-◌, ◌*◌, ◌/◌, ◌≤◌, ◌<◌, ltb, leb, length, get_or, Float};
 ghost use Rattle.config.specs.Sizes.{slots, most_sources, lanes};
 ghost use Rattle.number.specs.Number.{plus, times};
@@ -24,7 +26,7 @@ use voice::Voices;
 
 // What the sum of a destination is worked out from at one frame, besides the lent numbers: its plan, the routes, scene and signals, how many chunks a plan has
 // room for and how many plans there are, and whether a route of the plan is simple.
-#[derive(Drop)]
+#[derive(Clone, Copy)]
 pub struct Job {
     pub plan: Plan,
     pub routes: [Route; SLOTS],
@@ -36,7 +38,7 @@ pub struct Job {
 }
 
 // What every route of a job's plan is worked out from: whether the plan is per voice, whether a voice is active, the first route, the sizes and the gains.
-#[derive(Drop)]
+#[derive(Clone, Copy)]
 pub struct Ground {
     pub voice: bool,
     pub sounds: bool,
@@ -48,14 +50,14 @@ pub struct Ground {
 }
 
 // The active span: its first lane, and where it ends.
-#[derive(Drop)]
+#[derive(Clone, Copy)]
 pub struct Span {
     pub first: usize,
     pub end: usize,
 }
 
 // What the plain routes come to: whether there is one, whether all are plain, and the sum of their offsets.
-#[derive(Drop)]
+#[derive(Clone, Copy)]
 pub struct Totals {
     pub some: bool,
     pub all: bool,
@@ -63,7 +65,7 @@ pub struct Totals {
 }
 
 // Where the numbers that a route reads stand, one a lane: from there on in the held numbers, the values or the samples.
-#[derive(Drop)]
+#[derive(Clone, Copy)]
 pub enum Place {
     Held(usize),
     Values(usize),
@@ -75,7 +77,7 @@ pub enum Place {
 pub const GROUPS: usize = 4;
 
 // The lanes that the other routes are added in: how many, and which groups of them have an active voice; the voices; and the fresh lanes.
-#[derive(Drop)]
+#[derive(Clone, Copy)]
 pub struct Reach {
     pub lanes: usize,
     pub groups: [bool; GROUPS],

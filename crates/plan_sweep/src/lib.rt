@@ -1,5 +1,7 @@
 // Plain routes added over the rows of a chunk, 16 lanes at a time: the sums of a group stay together over four routes at a time, then over the last ones (engine.rs 951-1006,
 // 1013-1036, 1056-1183; document 01, Chunk and value). What the rows become is defined in specs/Sweep; which routes and plans are swept, and by what, in specs/Leads.
+#![tactic(auto)]
+
 ghost use Rattle.std.specs.Prelude.{◌≡◌, ℕ, ◌+◌, ◌-◌, ◌*◌, ◌/◌, ◌≤◌, ◌<◌, true, false, cond, eqb, length, get_or};
 ghost use Rattle.std.specs.Float.Ieee.{is_nan};
 ghost use Rattle.config.specs.Sizes.{slots, most_sources, most_frames, lanes};
@@ -14,7 +16,7 @@ use state::{Gains, Plan, Read, Route, SignalPart, Signals};
 
 // What the rows of a plan are swept by: what the routes are added to, whether the bounds hold anything, and they; which routes; the first lane of the span and its
 // groups of 16, and the lanes of a row.
-#[derive(Drop)]
+#[derive(Clone, Copy)]
 pub struct Pass {
     pub begun: f32,
     pub bound: bool,
@@ -274,7 +276,7 @@ fn some_rows(
 // ---- four routes
 
 // Where the numbers of four routes stand.
-#[derive(Drop)]
+#[derive(Clone, Copy)]
 pub struct Places {
     pub a: usize,
     pub b: usize,
@@ -283,7 +285,7 @@ pub struct Places {
 }
 
 // The gains of four routes.
-#[derive(Drop)]
+#[derive(Clone, Copy)]
 pub struct Levels {
     pub a: f32,
     pub b: f32,
@@ -513,7 +515,7 @@ pub fn rows(
 
 // What each route of a program is swept by in a chunk: where the numbers that it reads start, by how much they move a frame (0: it is not swept), its scaled gain,
 // and its offset times its gain.
-#[derive(Drop)]
+#[derive(Clone, Copy)]
 pub struct Leads {
     pub starts: [usize; SLOTS],
     pub steps: [usize; SLOTS],
@@ -695,7 +697,7 @@ pub fn leads_of(
 // ---- plans that are swept
 
 // What the plans of a chunk are swept by: whether a voice is active, the lane stride and the frames, and the active span: its first lane and its groups of 16.
-#[derive(Drop)]
+#[derive(Clone, Copy)]
 pub struct Field {
     pub on: bool,
     pub stride: usize,

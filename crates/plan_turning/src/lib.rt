@@ -1,6 +1,8 @@
 // The turn of a control plan of which every route is plain and reads samples: its sums, group of 16 lanes by group, and its two rows in the lent values; its slews
 // stand still (engine.rs 843-935, 1060-1112; document 01, Chunk and value). The definitions are in model's specs/Tick and in specs/Turns, which also says what a
 // contract holds of.
+#![tactic(auto)]
+
 ghost use Rattle.std.specs.Prelude.{◌≡◌, true, false, List, ℕ, ◌+◌, ◌*◌, ◌≤◌, ◌<◌, length, get_or, Float};
 ghost use Rattle.config.specs.Sizes.{slots, most_voices, most_frames, lanes};
 ghost use Rattle.state_filled.specs.Filled.{no_plan};
@@ -23,7 +25,7 @@ use state::{Gains, Plan};
 
 // What the turns of a tick go by, besides the lent numbers: the field and the tick, how many chunks a plan has room for, the frame that is read, and how many
 // control plans there are.
-#[derive(Drop)]
+#[derive(Clone, Copy)]
 pub struct Round {
     pub field: Field,
     pub tick: Tick,
@@ -33,7 +35,7 @@ pub struct Round {
 }
 
 // What a plan's sums are worked out from, besides the lent numbers: what they are swept by, the base outside the span, and the frame that is read.
-#[derive(Drop)]
+#[derive(Clone, Copy)]
 pub struct Sweep {
     pub pass: Pass,
     pub base: f32,

@@ -1,4 +1,6 @@
 // Compiled programs, and what they are sized for. Every `pub fn` is a public call.
+#![tactic(auto)]
+
 ghost use Rattle.std.specs.Prelude.{◌≡◌, ◌&&◌, ◌||◌, ltb, length};
 ghost use Rattle.config.specs.Configuration.{config_code};
 ghost use Rattle.number.specs.Number.{one32};
@@ -16,7 +18,7 @@ use slots_tables::TABLES;
 use state::{Compiled, Destinations, Matrix, Plan, Program, Route, Skipped, Sources};
 
 // A number, or the row by which it is refused, with 0.
-#[derive(Drop)]
+#[derive(Clone, Copy)]
 pub struct Count {
     pub code: u8,
     pub n: usize,
@@ -224,25 +226,25 @@ pub fn compile(
 
 // ---- what a program tells of itself
 
-#[derive(Drop)]
+#[derive(Clone, Copy)]
 pub enum PlanRead {
     Nothing,
     Plan(Plan),
 }
 
-#[derive(Drop)]
+#[derive(Clone, Copy)]
 pub enum RouteRead {
     Nothing,
     Route(Route),
 }
 
-#[derive(Drop)]
+#[derive(Clone, Copy)]
 pub enum SkippedRead {
     Nothing,
     Skipped(Skipped),
 }
 
-#[derive(Drop)]
+#[derive(Clone, Copy)]
 pub enum RateRead {
     Nothing,
     Audio,

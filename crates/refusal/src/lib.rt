@@ -1,4 +1,6 @@
 // A call's judgement, computed row by row: first(row(t1, 6), first(row(t2, 13), ..)).
+#![tactic(auto)]
+
 ghost use Rattle.std.specs.Prelude.{◌≡◌, [], ◌∷◌};
 ghost use Rattle.refusal.specs.Judge.{judged, first_of, ◌when◌};
 

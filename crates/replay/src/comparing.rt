@@ -4,7 +4,7 @@ use libc::STDOUT_FILENO;
 
 // How far a list is: its answers so far, how many of them differ, and how many lines of the session have been answered. Of the last answer the bytes before
 // `from` are as stored, and it is one that differs where `same` is not set.
-#[derive(Drop)]
+#[derive(Clone, Copy)]
 pub struct Tally {
     pub answers: u64,
     pub differ: u64,

@@ -1,5 +1,7 @@
 // Replays stored sessions (oracle/replay.py): answers each of their lines, compares what it prints with the stored answer, and prints how many answers there are
 // and how many of them differ, with the first few that do.
+#![tactic(auto)]
+
 ghost use Rattle.std.specs.Prelude.{◌<◌};
 
 mod comparing;
@@ -50,7 +52,7 @@ fn fewer(left: u64, over: bool, done: bool) -> u64
 }
 
 // A session after a line of the list: the session, the list's answers so far, and whether the line starts another session.
-#[derive(Drop)]
+#[derive(Clone, Copy)]
 struct Stepped {
     session: Session,
     tally: Tally,
@@ -96,7 +98,7 @@ fn step(
 }
 
 // What a session comes to: where the list goes on, and whether it is over.
-#[derive(Drop)]
+#[derive(Clone, Copy)]
 struct Replayed {
     reader: Reader,
     tally: Tally,

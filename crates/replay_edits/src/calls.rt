@@ -4,7 +4,7 @@ use matrix::Place;
 use state::Matrix;
 
 // What a call answers: its word of the list, its number, and the matrix.
-#[derive(Drop)]
+#[derive(Clone, Copy)]
 pub struct Answered {
     pub word: u32,
     pub value: f32,

@@ -1,5 +1,6 @@
 // Replays the Rust's answers to the editor's calls (oracle/edits.py; data/HOW.txt): makes every call of the list on a matrix, compares what it
 // answers and all slots afterwards with the list, and prints how many answers there are and how many of them differ, with the first few that do.
+#![tactic(auto)]
 
 mod calls;
 mod slots;
@@ -15,7 +16,7 @@ const SHOWN: u64 = 5;
 const BLOCKS: usize = 64;
 
 // How far the list is: the port's matrix, the Rust's by the list, the answers so far and how many of them differ.
-#[derive(Drop)]
+#[derive(Clone, Copy)]
 struct Tally {
     ours: Matrix,
     theirs: Matrix,

@@ -15,12 +15,12 @@ pub fn word(line: &[u8], k: usize) -> u32 {
     if WORDS <= k {
         return 0;
     }
-    (hex::hex(line, k * 9, 8) % 0x1_0000_0000) as u32
+    (hex_words::hex(line, k * 9, 8) % 0x1_0000_0000) as u32
 }
 
 // the binary32 whose bits are word k
 pub fn float(line: &[u8], k: usize) -> f32 {
-    hex::of_bits(word(line, k))
+    hex_words::of_bits(word(line, k))
 }
 
 // the target whose kind is word k, and whose number the next

@@ -5,7 +5,7 @@ ghost use Rattle.curve_table.specs.Table.{points};
 use curve_table::POINTS;
 
 // What a list's lines are answers to.
-#[derive(Drop)]
+#[derive(Clone, Copy)]
 pub enum Answers {
     // table, position: value
     Lookup,
@@ -33,14 +33,14 @@ pub fn width(list: Answers) -> usize
 fn word(s: &[u8], at: usize) -> u32
     requires { at + 8 < 2 ^ 64 }
 {
-    (hex::hex(s, at, 8) % 0x1_0000_0000) as u32
+    (hex_words::hex(s, at, 8) % 0x1_0000_0000) as u32
 }
 
 // the eight digits at a place, as a binary32
 fn number(s: &[u8], at: usize) -> f32
     requires { at + 8 < 2 ^ 64 }
 {
-    hex::of_bits(word(s, at))
+    hex_words::of_bits(word(s, at))
 }
 
 fn number_or_0(s: &[u8], i: usize) -> f32 {
@@ -97,14 +97,14 @@ fn slew_differs(s: &[u8], at: usize) -> bool
 fn draw_differs(s: &[u8], at: usize) -> bool
     requires { at + 69 < 2 ^ 64 }
 {
-    let next = draw::step(hex::hex(s, at, 16));
-    if next != hex::hex(s, at + 17, 16) {
+    let next = draw::step(hex_words::hex(s, at, 16));
+    if next != hex_words::hex(s, at + 17, 16) {
         return true;
     }
-    if draw::wrapping_mul(next, 2685821657736338717) != hex::hex(s, at + 34, 16) {
+    if draw::wrapping_mul(next, 2685821657736338717) != hex_words::hex(s, at + 34, 16) {
         return true;
     }
-    if draw::bits(next) != hex::hex(s, at + 51, 8) {
+    if draw::bits(next) != hex_words::hex(s, at + 51, 8) {
         return true;
     }
     !number::are_same(draw::draw(next), number(s, at + 60))

@@ -1,5 +1,7 @@
 // Replays stored answers for the leaves: table lookups, slew rates and slew steps as the Rust gives them, and draws
 // as xorshift64* in C gives them. Prints, for each list, how many lines it has and how many of them differ.
+#![tactic(auto)]
+
 ghost use Rattle.std.specs.Prelude.{◌≡◌, ◌*◌, ◌≤◌, length};
 ghost use Rattle.curve_table.specs.Table.{points};
 ghost use Rattle.io.specs.Counts.{IsPrefixLen};
@@ -49,7 +51,7 @@ fn tables() -> [f32; TABLES]
 }
 
 // What a block of a list comes to.
-#[derive(Drop)]
+#[derive(Clone, Copy)]
 struct Tally {
     bytes: usize,
     differ: usize,

@@ -1,4 +1,6 @@
 // How a slewed value moves, in one lane. The definitions that contracts cite are in specs/Slew.antt.
+#![tactic(auto)]
+
 ghost use Rattle.std.specs.Prelude.{◌≡◌};
 ghost use Rattle.slew.specs.Slew.{rate_per_sample, reach, slew_step};
 

@@ -1,5 +1,7 @@
 // A slot of the matrix, the walks over its slots, and the matrix with a part replaced. The definitions that contracts
 // cite are in specs/.
+#![tactic(auto)]
+
 ghost use Rattle.std.specs.Prelude.{◌≡◌, map, ◌≤◌};
 ghost use Rattle.slots.specs.Matrix.{slot_of, with_slots, with_velocity, with_key};
 ghost use Rattle.slots.specs.Slots.{empty_slot, no_source, no_destination, is_empty_slot, route_slot, kept_amount};

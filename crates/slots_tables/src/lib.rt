@@ -1,5 +1,7 @@
 // The matrix's lent tables: which places a matrix names, and what is written to and judged of them. The definitions are
 // in specs/Tables.antt.
+#![tactic(auto)]
+
 ghost use Rattle.std.specs.Prelude.{◌≡◌, not, [], ◌∷◌, ◌≤◌, ◌<◌, eqb, ltb, length};
 ghost use Rattle.refusal.specs.Judge.{judged, ◌when◌};
 ghost use Rattle.config.specs.Sizes.{slots};

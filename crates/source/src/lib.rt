@@ -1,4 +1,6 @@
 // The registry of sources (source.rs; document 01, Source entry), and what a source's kind says of it.
+#![tactic(auto)]
+
 ghost use Rattle.std.specs.Prelude.{◌≡◌, false, cond, ◌||◌, ◌+◌, ◌≤◌, ◌<◌, eqb, ltb, length, drop};
 ghost use Rattle.list.specs.Part.{part};
 ghost use Rattle.refusal.specs.Judge.{judged};
@@ -19,20 +21,20 @@ ghost use Rattle.source.specs.Standard.{standard_key, clashes, standard_count, s
 use config::SOURCES;
 use state::{KEY_BYTES, Kind, Range, Scope, Source, Sources};
 
-#[derive(Drop)]
+#[derive(Clone, Copy)]
 pub struct SourceAdded {
     pub code: u8,
     pub id: usize,
     pub sources: Sources,
 }
 
-#[derive(Drop)]
+#[derive(Clone, Copy)]
 pub struct SourceEntry {
     pub known: bool,
     pub source: Source,
 }
 
-#[derive(Drop)]
+#[derive(Clone, Copy)]
 pub enum SourceFound {
     Refused(u8),
     Nothing,
@@ -40,7 +42,7 @@ pub enum SourceFound {
 }
 
 // A source without its key: what `add` takes beside the key.
-#[derive(Drop)]
+#[derive(Clone, Copy)]
 pub struct SourceInfo {
     pub kind: Kind,
     pub scope: Scope,
@@ -48,7 +50,7 @@ pub struct SourceInfo {
 }
 
 // How many of each kind the standard sources have.
-#[derive(Drop)]
+#[derive(Clone, Copy)]
 pub struct Counts {
     pub envelopes: usize,
     pub lfos: usize,
@@ -56,7 +58,7 @@ pub struct Counts {
     pub sequence_values: usize,
 }
 
-#[derive(Drop)]
+#[derive(Clone, Copy)]
 pub struct StandardMade {
     pub code: u8,
     pub sources: Sources,

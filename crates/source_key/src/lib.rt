@@ -1,5 +1,7 @@
 // The bytes of a key, written word by word and number by number, and read back. The definitions that contracts cite are
 // in specs/.
+#![tactic(auto)]
+
 ghost use Rattle.std.specs.Prelude.{◌≡◌, ◌+◌, ◌≤◌, ◌<◌, ltb};
 ghost use Rattle.source_key.specs.Text.{blank_text, put_byte, put_all, decimal};
 ghost use Rattle.source_key.specs.Bytes.{same_bytes};
@@ -8,7 +10,7 @@ ghost use Rattle.source_key.specs.Numbered.{is_digit, longer, read_on, number_th
 use state::KEY_BYTES;
 
 // A key as it is written: the bytes so far, then zeros, and how many there are.
-#[derive(Drop)]
+#[derive(Clone, Copy)]
 pub struct Text {
     pub bytes: [u8; KEY_BYTES],
     pub len: usize,

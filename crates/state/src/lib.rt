@@ -1,5 +1,7 @@
 // The records that several crates read: registries, slots and the compiled program; docs/CALLS.md says what each field
 // means.
+#![tactic(auto)]
+
 ghost use Rattle.std.specs.Prelude.{◌≡◌};
 ghost use Rattle.state.specs.Registry.{same_target};
 
@@ -11,7 +13,7 @@ pub const KEY_BYTES: usize = 32;
 
 // ---- sources (source.rs; document 01, Source entry)
 
-#[derive(Drop)]
+#[derive(Clone, Copy)]
 pub enum Kind {
     Signal,
     Audio,
@@ -26,20 +28,20 @@ pub enum Kind {
     Constant,
 }
 
-#[derive(Drop)]
+#[derive(Clone, Copy)]
 pub enum Scope {
     Voice,
     Global,
 }
 
-#[derive(Drop)]
+#[derive(Clone, Copy)]
 pub enum Range {
     Unipolar,
     Bipolar,
 }
 
 // A source's entry. `key` has the key's bytes, then zeros; `len` is the key's length.
-#[derive(Drop)]
+#[derive(Clone, Copy)]
 pub struct Source {
     pub key: [u8; KEY_BYTES],
     pub len: usize,
@@ -48,7 +50,7 @@ pub struct Source {
     pub range: Range,
 }
 
-#[derive(Drop)]
+#[derive(Clone, Copy)]
 pub struct Sources {
     pub count: usize,
     pub entry: [Source; SOURCES],
@@ -56,7 +58,7 @@ pub struct Sources {
 
 // ---- destinations (dest.rs; document 01, Destination entry)
 
-#[derive(Drop)]
+#[derive(Clone, Copy)]
 pub enum Target {
     Param(u32),
     LfoBus { lfo: u8, bus: u8 },
@@ -78,14 +80,14 @@ pub fn same_target(a: Target, b: Target) -> bool
     }
 }
 
-#[derive(Drop)]
+#[derive(Clone, Copy)]
 pub enum Rate {
     Audio,
     Control,
     Adaptive,
 }
 
-#[derive(Drop)]
+#[derive(Clone, Copy)]
 pub enum Feed {
     Nothing,
     Source(usize),
@@ -93,7 +95,7 @@ pub enum Feed {
     Output(usize),
 }
 
-#[derive(Drop)]
+#[derive(Clone, Copy)]
 pub struct Dest {
     pub target: Target,
     pub scope: Scope,
@@ -103,7 +105,7 @@ pub struct Dest {
     pub feed: Feed,
 }
 
-#[derive(Drop)]
+#[derive(Clone, Copy)]
 pub struct Destinations {
     pub count: usize,
     pub entry: [Dest; DESTINATIONS],
@@ -111,25 +113,25 @@ pub struct Destinations {
 
 // ---- slots (matrix.rs; document 01, Slot)
 
-#[derive(Drop)]
+#[derive(Clone, Copy)]
 pub enum Pick {
     Nothing,
     Source(usize),
 }
 
-#[derive(Drop)]
+#[derive(Clone, Copy)]
 pub enum Aim {
     Nothing,
     At(Target),
 }
 
-#[derive(Drop)]
+#[derive(Clone, Copy)]
 pub enum Polarity {
     Unipolar,
     Bipolar,
 }
 
-#[derive(Drop)]
+#[derive(Clone, Copy)]
 pub struct Slot {
     pub source: Pick,
     pub source_curve: Curve,
@@ -143,13 +145,13 @@ pub struct Slot {
     pub bypass: bool,
 }
 
-#[derive(Drop)]
+#[derive(Clone, Copy)]
 pub enum NoteCurve {
     Linear,
     Table,
 }
 
-#[derive(Drop)]
+#[derive(Clone, Copy)]
 pub struct Matrix {
     pub slot: [Slot; SLOTS],
     pub velocity: NoteCurve,
@@ -160,7 +162,7 @@ pub struct Matrix {
 
 // ---- the compiled program (program.rs; document 01, Plan and route)
 
-#[derive(Drop)]
+#[derive(Clone, Copy)]
 pub enum Read {
     Signal { source: u8, voice: bool },
     Held { source: u8, voice: bool },
@@ -169,14 +171,14 @@ pub enum Read {
     RouteRandom,
 }
 
-#[derive(Drop)]
+#[derive(Clone, Copy)]
 pub enum Slew {
     Free,
     Limit { up: f32, down: f32 },
 }
 
 // One input of a route. `table` says that it has a curve table, at the place of its slot and position.
-#[derive(Drop)]
+#[derive(Clone, Copy)]
 pub struct Input {
     pub read: Read,
     pub bipolar: bool,
@@ -184,20 +186,20 @@ pub struct Input {
     pub slew: Slew,
 }
 
-#[derive(Drop)]
+#[derive(Clone, Copy)]
 pub enum Aux {
     Missing,
     With(Input),
 }
 
-#[derive(Drop)]
+#[derive(Clone, Copy)]
 pub enum Gain {
     Live,
     Fed { plan: u8, voice: bool },
 }
 
 // `scale` and `offset` are the Rust's `affine`.
-#[derive(Drop)]
+#[derive(Clone, Copy)]
 pub struct Route {
     pub slot: u8,
     pub source: Input,
@@ -212,7 +214,7 @@ pub struct Route {
     pub simple: bool,
 }
 
-#[derive(Drop)]
+#[derive(Clone, Copy)]
 pub enum Base {
     Set,
     Held(u8),
@@ -221,7 +223,7 @@ pub enum Base {
 }
 
 // `first` and `count` say which routes are the plan's.
-#[derive(Drop)]
+#[derive(Clone, Copy)]
 pub struct Plan {
     pub dest: u16,
     pub voice: bool,
@@ -233,26 +235,26 @@ pub struct Plan {
     pub count: usize,
 }
 
-#[derive(Drop)]
+#[derive(Clone, Copy)]
 pub enum Reason {
     UnknownSource,
     UnknownAux,
     UnknownDestination,
 }
 
-#[derive(Drop)]
+#[derive(Clone, Copy)]
 pub struct Skipped {
     pub slot: u8,
     pub reason: Reason,
 }
 
-#[derive(Drop)]
+#[derive(Clone, Copy)]
 pub struct Gains {
     pub amount: [f32; SLOTS],
     pub output: [f32; SLOTS],
 }
 
-#[derive(Drop)]
+#[derive(Clone, Copy)]
 pub struct Program {
     pub config: Config,
     pub sources: usize,
@@ -273,7 +275,7 @@ pub struct Program {
 }
 
 // A program, or the row by which compiling is refused.
-#[derive(Drop)]
+#[derive(Clone, Copy)]
 pub struct Compiled {
     pub code: u8,
     pub program: Program,
@@ -282,7 +284,7 @@ pub struct Compiled {
 // ---- compiling (program.rs 272-372; document 01, Plan and route)
 
 // What a program is compiled from.
-#[derive(Drop)]
+#[derive(Clone, Copy)]
 pub struct Wiring {
     pub matrix: Matrix,
     pub sources: Sources,
@@ -290,14 +292,14 @@ pub struct Wiring {
     pub config: Config,
 }
 
-#[derive(Drop)]
+#[derive(Clone, Copy)]
 pub enum AuxSource {
     Nothing,
     Source(u8),
 }
 
 // A slot that becomes a route.
-#[derive(Drop)]
+#[derive(Clone, Copy)]
 pub struct Candidate {
     pub slot: u8,
     pub source: u8,
@@ -306,7 +308,7 @@ pub struct Candidate {
 }
 
 // What becomes of a slot.
-#[derive(Drop)]
+#[derive(Clone, Copy)]
 pub enum Verdict {
     Over,
     LeftOut(Reason),
@@ -314,7 +316,7 @@ pub enum Verdict {
 }
 
 // A destination in use: its scope, its rate and its counted feed.
-#[derive(Drop)]
+#[derive(Clone, Copy)]
 pub struct Used {
     pub dest: u16,
     pub voice: bool,
@@ -323,14 +325,14 @@ pub struct Used {
 }
 
 // The destination in use that feeds a thing and is read.
-#[derive(Drop)]
+#[derive(Clone, Copy)]
 pub enum Feeder {
     Nothing,
     Dest { dest: u16, voice: bool },
 }
 
 // A candidate and who feeds its source, its aux, its amount and its output.
-#[derive(Drop)]
+#[derive(Clone, Copy)]
 pub struct Reader {
     pub candidate: Candidate,
     pub source: Feeder,
@@ -342,26 +344,26 @@ pub struct Reader {
 // ---- the engine (engine.rs 202-260; document 01, Chunk and value)
 
 // A source's part of the samples: (0, 0, 0) where it is unbound.
-#[derive(Drop)]
+#[derive(Clone, Copy)]
 pub struct SignalPart {
     pub at: usize,
     pub len: usize,
     pub stride: usize,
 }
 
-#[derive(Drop)]
+#[derive(Clone, Copy)]
 pub struct Signals {
     pub part: [SignalPart; SOURCES],
 }
 
 // What the engine knows of a source.
-#[derive(Drop)]
+#[derive(Clone, Copy)]
 pub struct SourceMark {
     pub kind: Kind,
     pub scope: Scope,
 }
 
-#[derive(Drop)]
+#[derive(Clone, Copy)]
 pub struct Chunk {
     pub start: usize,
     pub len: usize,
@@ -371,7 +373,7 @@ pub struct Chunk {
 
 // The last nonempty block: its range, the phase at its start, and whether its first chunk ticks whatever the phase.
 // `start` = `end` where it had no routes.
-#[derive(Drop)]
+#[derive(Clone, Copy)]
 pub struct Block {
     pub start: usize,
     pub end: usize,
@@ -379,7 +381,7 @@ pub struct Block {
     pub first_tick: bool,
 }
 
-#[derive(Drop)]
+#[derive(Clone, Copy)]
 pub struct State {
     pub config: Config,
     pub sources: usize,
@@ -401,25 +403,25 @@ pub struct State {
 
 // ---- answers of calls on an engine
 
-#[derive(Drop)]
+#[derive(Clone, Copy)]
 pub struct Flag {
     pub code: u8,
     pub on: bool,
 }
 
-#[derive(Drop)]
+#[derive(Clone, Copy)]
 pub struct Bound {
     pub code: u8,
     pub signals: Signals,
 }
 
-#[derive(Drop)]
+#[derive(Clone, Copy)]
 pub enum ChunkRead {
     Nothing,
     Chunk(Chunk),
 }
 
-#[derive(Drop)]
+#[derive(Clone, Copy)]
 pub enum Output {
     Refused(u8),
     Unmodulated,
@@ -427,14 +429,14 @@ pub enum Output {
     Control { width: usize, chunks: usize },
 }
 
-#[derive(Drop)]
+#[derive(Clone, Copy)]
 pub enum Reading {
     Refused(u8),
     Nothing,
     Value(f32),
 }
 
-#[derive(Drop)]
+#[derive(Clone, Copy)]
 pub enum Ramped {
     Refused(u8),
     Nothing,

@@ -1,4 +1,6 @@
 // Lists of at most as many things as there are slots, in arrays that are filled from their start.
+#![tactic(auto)]
+
 ghost use Rattle.std.specs.Prelude.{◌≡◌, [], min};
 ghost use Rattle.config.specs.Sizes.{slots};
 ghost use Rattle.state_filled.specs.Filled.{candidates_of, candidates_in, with_candidate, skips_of, skips_in};
@@ -24,7 +26,7 @@ pub fn held(n: usize) -> usize
 
 // ---- the candidates
 
-#[derive(Drop)]
+#[derive(Clone, Copy)]
 pub struct Candidates {
     pub count: usize,
     pub at: [Candidate; SLOTS],
@@ -61,7 +63,7 @@ pub fn add_candidate(list: Candidates, x: Candidate) -> Candidates
 
 // ---- the slots left out
 
-#[derive(Drop)]
+#[derive(Clone, Copy)]
 pub struct Skips {
     pub count: usize,
     pub at: [Skipped; SLOTS],
@@ -93,7 +95,7 @@ pub fn add_skip(list: Skips, x: Skipped) -> Skips
 
 // ---- the destinations in use
 
-#[derive(Drop)]
+#[derive(Clone, Copy)]
 pub struct UsedDests {
     pub count: usize,
     pub at: [Used; SLOTS],
@@ -130,7 +132,7 @@ pub fn add_used(list: UsedDests, x: Used) -> UsedDests
 
 // ---- the candidates with their feeders
 
-#[derive(Drop)]
+#[derive(Clone, Copy)]
 pub struct Readers {
     pub count: usize,
     pub at: [Reader; SLOTS],
@@ -173,7 +175,7 @@ pub fn add_reader(list: Readers, x: Reader) -> Readers
 
 // ---- numbers of destinations
 
-#[derive(Drop)]
+#[derive(Clone, Copy)]
 pub struct Numbers {
     pub count: usize,
     pub at: [u16; SLOTS],
@@ -204,7 +206,7 @@ pub fn add_number(list: Numbers, x: u16) -> Numbers
 
 // ---- plans
 
-#[derive(Drop)]
+#[derive(Clone, Copy)]
 pub struct Plans {
     pub count: usize,
     pub at: [Plan; SLOTS],
@@ -244,7 +246,7 @@ pub fn add_plan(list: Plans, x: Plan) -> Plans
 
 // ---- routes
 
-#[derive(Drop)]
+#[derive(Clone, Copy)]
 pub struct Routes {
     pub count: usize,
     pub at: [Route; SLOTS],

@@ -1,5 +1,7 @@
 // The entries that stand in the two registries, read whatever number is asked for. The definitions are in state's
 // specs/Registry.
+#![tactic(auto)]
+
 ghost use Rattle.std.specs.Prelude.{◌≡◌};
 ghost use Rattle.std.specs.Float.{nan};
 ghost use Rattle.state.specs.Registry.{source_count, known_source, source_at, no_source, dest_count, dest_at, no_dest};

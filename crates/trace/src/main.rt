@@ -1,4 +1,6 @@
 // Reads a session from standard input and prints what each of its calls answers (oracle/README.md, Session format).
+#![tactic(auto)]
+
 ghost use Rattle.std.specs.Prelude.{◌<◌};
 
 use libc::STDIN_FILENO;

@@ -1,4 +1,6 @@
 // A session's lines about an engine: blocks, settings, notes, and what is printed of it.
+#![tactic(auto)]
+
 mod readers;
 mod setters;
 

@@ -65,7 +65,7 @@ fn how(book: &[usize]) -> How {
 // ---- a block
 
 // A block to run: the engine before it, what is bound, and the frames.
-#[derive(Drop)]
+#[derive(Clone, Copy)]
 struct Block {
     engine: Engine,
     signals: Signals,

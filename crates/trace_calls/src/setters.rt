@@ -65,7 +65,7 @@ fn set_voice_limit(e: Engine, line: &[u8]) -> Done {
 // `set_rng HEX16`
 fn set_rng(e: Engine, line: &[u8]) -> Done {
     let w = trace_input_session::word(line, 1);
-    let draw = hex::hex(w, 0, w.len());
+    let draw = hex_words::hex(w, 0, w.len());
     failed(e.with_draw(draw), 0)
 }
 

@@ -1,4 +1,6 @@
 // What answers the lines of a session (oracle/README.md, Session format), and how much memory it is lent.
+#![tactic(auto)]
+
 ghost use Rattle.std.specs.Prelude.{◌<◌};
 
 mod answering;

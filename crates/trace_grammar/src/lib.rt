@@ -1,5 +1,7 @@
 // The session language (docs/SESSIONS.md, The grammar): the commands, what may stand after each, and what a line is by
 // them.
+#![tactic(auto)]
+
 ghost use Rattle.std.specs.Prelude.{◌≡◌, false, ◌+◌, ◌*◌, ◌<◌, ◌≤◌, [], drop, get_or, length};
 ghost use Rattle.trace_grammar.specs.Commands.{command_at};
 ghost use Rattle.trace_grammar.specs.Grammar.{after_class, ends_class, kind_at, line_of, rest_of};
@@ -11,7 +13,7 @@ use trace_grammar_kinds::Kind;
 // ---- commands
 
 // Lines about the configuration and the registries.
-#[derive(Drop)]
+#[derive(Clone, Copy)]
 pub enum Registry {
     Config,
     Source,
@@ -21,7 +23,7 @@ pub enum Registry {
 }
 
 // Lines about the matrix and its tables.
-#[derive(Drop)]
+#[derive(Clone, Copy)]
 pub enum Editing {
     Table,
     Slot,
@@ -31,7 +33,7 @@ pub enum Editing {
 }
 
 // Lines that make programs and engines, and install programs.
-#[derive(Drop)]
+#[derive(Clone, Copy)]
 pub enum Making {
     Compile,
     Swap,
@@ -39,7 +41,7 @@ pub enum Making {
 }
 
 // Lines about what calls are lent, and how outputs print.
-#[derive(Drop)]
+#[derive(Clone, Copy)]
 pub enum Lending {
     MemoryLen,
     Print,
@@ -50,7 +52,7 @@ pub enum Lending {
 }
 
 // Lines that set something of the engine.
-#[derive(Drop)]
+#[derive(Clone, Copy)]
 pub enum Setting {
     SetHeld,
     SetVoiceHeld,
@@ -65,7 +67,7 @@ pub enum Setting {
 }
 
 // Lines that print what the engine answers.
-#[derive(Drop)]
+#[derive(Clone, Copy)]
 pub enum Reading {
     Out,
     Latest,
@@ -76,7 +78,7 @@ pub enum Reading {
 }
 
 // The commands.
-#[derive(Drop)]
+#[derive(Clone, Copy)]
 pub enum Command {
     Registry(Registry),
     Editing(Editing),
@@ -763,7 +765,7 @@ fn may_end(class: u8) -> bool
 // ---- lines
 
 // What a line is.
-#[derive(Drop)]
+#[derive(Clone, Copy)]
 pub enum Line {
     // blank, or a comment
     Nothing,

@@ -1,4 +1,6 @@
 // The kinds of words of the session language (docs/SESSIONS.md, Kinds of words), and which words are of which kind.
+#![tactic(auto)]
+
 ghost use Rattle.std.specs.Prelude.{◌≡◌, ◌≤◌};
 ghost use Rattle.trace_grammar_kinds.specs.Kinds.{class_of, fits, kind_of, is_aim, is_bus, is_curve, is_draw};
 ghost use Rattle.trace_grammar_kinds.specs.Kinds.{is_feed, is_field, is_length, is_length_or_letter, is_of, is_part};
@@ -20,7 +22,7 @@ pub const LAST_ENTRY: usize = POINTS - 1;
 pub const LAST_SOURCE: usize = SOURCES - 1;
 
 // What may stand at a place of a line.
-#[derive(Drop)]
+#[derive(Clone, Copy)]
 pub enum Kind {
     // no word: the line is over
     End,

@@ -1,9 +1,11 @@
 // The lines of a text that is read in pieces: a buffer of which the bytes from `start` to before `end` are still to come.
+#![tactic(auto)]
+
 ghost use Rattle.std.specs.Prelude.{◌+◌, ◌<◌, ◌≤◌, length};
 
 // `last`: nothing comes after these bytes. `failed`: because the input can't be read. `inside`: they belong to a line that has
 // been answered. `number`: how many lines began before them.
-#[derive(Drop)]
+#[derive(Clone, Copy)]
 pub struct Reader {
     pub start: usize,
     pub end: usize,
@@ -158,7 +160,7 @@ fn past(r: Reader, stop: usize) -> Reader {
 
 // The bytes from `start` to before `stop`: line `number`, whole where `all` says so; none where they are the rest of a line.
 // `done`: nothing comes any more, or no whole line and the input can't be read.
-#[derive(Drop)]
+#[derive(Clone, Copy)]
 pub struct Coming {
     pub start: usize,
     pub stop: usize,

@@ -3,7 +3,7 @@ use Rattle.std.specs.Prelude.{◌≡◌, refl, Bool, true, false, cond, ◌&&◌
 use Rattle.std.specs.Float.{binary32}
 use Rattle.std.specs.Float.Ieee.{of_bits}
 use Rattle.decimal.specs.Decimal as Decimal
-use Rattle.hex.specs.Hex.{hex_at, digit_of}
+use Rattle.hex_words.specs.Hex.{hex_at, digit_of}
 use Rattle.trace_input_session.specs.declared.FloatWord.{FloatWord}
 use Rattle.trace_input_session.specs.declared.WholeWord.{WholeWord}
 

@@ -1,4 +1,5 @@
 // The words of a session's line, and what a word stands for (oracle/README.md, Session format).
+#![tactic(auto)]
 
 ghost use Rattle.std.specs.Prelude.{◌≡◌, false, [], ◌<◌, ◌≤◌, length, drop, get_or};
 ghost use Rattle.trace_input_session.specs.Words.{is_hex, all_hex, decimal_word, float_of, same_bytes, decimal_of};
@@ -7,14 +8,14 @@ ghost use Rattle.trace_input_session.specs.Lines.{is_blank, word_from, words_of,
 ghost use Rattle.trace_input_session.specs.Lines.{Skipped, Stopped, Passed, Placed, Found};
 
 // A whole number, where the word is one.
-#[derive(Drop)]
+#[derive(Clone, Copy)]
 pub struct WholeWord {
     pub good: bool,
     pub value: u64,
 }
 
 // A number, where the word is one.
-#[derive(Drop)]
+#[derive(Clone, Copy)]
 pub struct FloatWord {
     pub good: bool,
     pub value: f32,
@@ -337,6 +338,6 @@ pub fn float(w: &[u8]) -> FloatWord
     }
     FloatWord {
         good: true,
-        value: hex::of_bits((hex::hex(w, 0, 8) % 0x1_0000_0000) as u32),
+        value: hex_words::of_bits((hex_words::hex(w, 0, 8) % 0x1_0000_0000) as u32),
     }
 }

@@ -1,18 +1,20 @@
 // What the words of a session's lines stand for: the arguments of a line, and the cases of the core's types. Lines are judged before (grammar).
+#![tactic(auto)]
+
 use config::Config;
 use state::{Aim, Feed, Kind, Pick, Polarity, Range, Rate, Scope, Target};
 
 // ---- arguments of a line: each is of its kind (grammar)
 
 // Words 1 and 2, two whole numbers.
-#[derive(Drop)]
+#[derive(Clone, Copy)]
 pub struct PairWord {
     pub a: usize,
     pub b: usize,
 }
 
 // Words 1 and 2, a whole number and a number.
-#[derive(Drop)]
+#[derive(Clone, Copy)]
 pub struct ValueWord {
     pub n: usize,
     pub x: f32,
@@ -83,7 +85,7 @@ pub fn config(line: &[u8]) -> Config {
 // ---- sources
 
 // The kind, scope and range of a source.
-#[derive(Drop)]
+#[derive(Clone, Copy)]
 pub struct SourceWord {
     pub kind: Kind,
     pub scope: Scope,
@@ -154,7 +156,7 @@ pub fn source(line: &[u8]) -> SourceWord {
 // ---- destinations
 
 // The scope, rate and bounds of a destination.
-#[derive(Drop)]
+#[derive(Clone, Copy)]
 pub struct DestWord {
     pub scope: Scope,
     pub rate: Rate,

@@ -15,7 +15,7 @@ const INSTALLED: u8 = 105;
 const NO_TABLE: u8 = 106;
 
 // What is not there, by its code, and the part of the line that names it; `code` is 0 where all is there.
-#[derive(Drop)]
+#[derive(Clone, Copy)]
 pub struct Absent {
     pub code: u8,
     pub at: usize,

@@ -1,4 +1,6 @@
 // A line in hand: what is printed above its answers, where it is refused, and where it ends the session (docs/SESSIONS.md, How a line reads).
+#![tactic(auto)]
+
 ghost use Rattle.std.specs.Prelude.{◌≡◌, if◌then◌else◌};
 ghost use Rattle.trace_lines_answer.specs.Endings.{after_code, Begun, code_of, cut_code, status_of};
 
@@ -195,7 +197,7 @@ pub fn told(code: u8, number: u64, out: &mut [u8], at: usize) -> usize {
 
 // A line in hand: its number, and what it is; `at` bytes of output wait. `code`: by which it ends the session before its call is
 // made; 0 where it does not.
-#[derive(Drop)]
+#[derive(Clone, Copy)]
 pub struct Hand {
     pub at: usize,
     pub number: u64,

@@ -1,5 +1,7 @@
 // What a session has said so far, and the lines that change what programs are compiled from, the programs, and what calls are lent (oracle/README.md, Session
 // format).
+#![tactic(auto)]
+
 use engine::Engine;
 use state::{Program, Signals, Sources};
 use trace_grammar::{Editing, Lending, Making, Registry};
@@ -9,7 +11,7 @@ use trace_setup_preset::{Changed, Preset};
 use trace_store_book::DESTS;
 
 // What a session has said so far, but for the memories and the programs. `at` bytes of output wait; `code`: of the last line that was refused, or that ended the session.
-#[derive(Drop)]
+#[derive(Clone, Copy)]
 pub struct State {
     pub at: usize,
     pub code: u8,
@@ -19,7 +21,7 @@ pub struct State {
 }
 
 // The state after a line, and the program that has number i from now on.
-#[derive(Drop)]
+#[derive(Clone, Copy)]
 pub struct After {
     pub state: State,
     pub i: usize,

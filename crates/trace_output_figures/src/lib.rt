@@ -1,4 +1,5 @@
 // Rows of numbers as text, their hash, and their places.
+#![tactic(auto)]
 
 // ---- places; no product or sum of a program's comes near 2^64
 
@@ -73,7 +74,7 @@ fn after_byte(h: u64, b: u64) -> u64 {
 
 // the hash after a number's bits, least significant byte first
 fn after(h: u64, x: f32) -> u64 {
-    let n = hex::bits_of(plain_zero(x)) as u64;
+    let n = hex_words::bits_of(plain_zero(x)) as u64;
     let a = after_byte(h, n % 256);
     let b = after_byte(a, n / 256 % 256);
     let c = after_byte(b, n / 65536 % 256);

@@ -1,4 +1,6 @@
 // The words of the rows by which calls are refused (docs/SESSIONS.md, Refusals).
+#![tactic(auto)]
+
 ghost use Rattle.std.specs.Prelude.{◌≡◌};
 ghost use Rattle.trace_output_refusals.specs.Rows.{rows_text, row_words};
 

@@ -1,6 +1,8 @@
 // Output, collected in a buffer of the caller's: each call appends at a place, answers the next one, and writes the buffer
 // to standard output where it is full. The buffer's last 16 bytes keep how many lines have been written (8 bytes, the lowest
 // first) and whether a write failed (the byte after them); after a write that failed nothing is written any more.
+#![tactic(auto)]
+
 ghost use Rattle.std.specs.Prelude.{◌≡◌, ◌+◌, ◌<◌, ◌≤◌, length, if◌then◌else◌};
 ghost use Rattle.trace_output_show.specs.Feeds.{feeds_of};
 ghost use Rattle.trace_output_show.specs.Glyphs.{glyph_of, glyphs_of};
@@ -210,7 +212,7 @@ fn digits(n: u32) -> [u8; 8]
 
 // the bits of a number, as eight hexadecimal digits; a NaN's are 7FC00000
 pub fn float(out: &mut [u8], at: usize, x: f32) -> usize {
-    let d = digits(hex::bits_of(x));
+    let d = digits(hex_words::bits_of(x));
     put(out, at, &d)
 }
 

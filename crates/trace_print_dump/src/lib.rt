@@ -1,4 +1,6 @@
 // A compiled program as text: PROGRAM, SKIP, PLAN and ROUTE lines (oracle/README.md, What is printed). The offsets are the port's own: docs/CALLS.md, Memories.
+#![tactic(auto)]
+
 ghost use Rattle.std.specs.Prelude.{◌≡◌, ◌≤◌, length};
 
 use state::{Aux, Base, Gain, Input, Plan, Program, Read, Reason, Route, Skipped, Slew};

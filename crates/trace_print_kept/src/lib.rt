@@ -1,4 +1,5 @@
 // An engine's state and a program's memory as text (oracle/README.md, What is printed: the S and M lines).
+#![tactic(auto)]
 
 mod lanes;
 mod places;

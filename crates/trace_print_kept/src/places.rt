@@ -5,7 +5,7 @@ use config::{Config, DESTINATIONS, FRAMES, SLOTS};
 use state::{Aux, Input, Plan, Program, Read, Route, Slew};
 
 // The sizes that places follow from: the lane stride, the frames, and the numbers of a plan and of all plans in the values.
-#[derive(Drop)]
+#[derive(Clone, Copy)]
 struct Sizes {
     stride: usize,
     frames: usize,

@@ -37,7 +37,7 @@ pub fn latest(
 
 // what stands in the numbers for `latest_all` before the call
 pub fn unwritten() -> f32 {
-    hex::of_bits(3735928559)
+    hex_words::of_bits(3735928559)
 }
 
 // `ALL voices each X..`, `each` numbers for each voice

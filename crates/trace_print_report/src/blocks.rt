@@ -10,7 +10,7 @@ use state::{Chunk, ChunkRead, Output, Plan, Program};
 use trace_print_order::NONE;
 
 // Which audio rows are printed, and how.
-#[derive(Drop)]
+#[derive(Clone, Copy)]
 struct Span {
     start: usize,
     end: usize,
@@ -96,7 +96,7 @@ fn chunk_lines(engine: Engine, chunks: usize, out: &mut [u8], at: usize) -> usiz
 // ---- control plans
 
 // A plan's destination and width, and whether -0 is printed as 0.
-#[derive(Drop)]
+#[derive(Clone, Copy)]
 struct Shape {
     dest: usize,
     width: usize,
@@ -149,7 +149,7 @@ fn lane_0(xs: &[f32], s: Shape, i: usize, out: &mut [u8], at: usize) -> usize {
 }
 
 // Where the output goes on after a line, or the lines of a destination, and what they are of: a chunk, a destination.
-#[derive(Drop)]
+#[derive(Clone, Copy)]
 struct Line {
     at: usize,
     of: usize,
@@ -176,7 +176,7 @@ fn case_line(
 }
 
 // Where the output goes on after the lines of a destination, and the chunks in the order of their lines.
-#[derive(Drop)]
+#[derive(Clone, Copy)]
 struct Rows {
     at: usize,
     chunks: [usize; CHUNKS],
@@ -413,7 +413,7 @@ fn one(
 
 // Where the output goes on after the lines of a block, and the destinations in the order of their lines, NONE after the
 // last.
-#[derive(Drop)]
+#[derive(Clone, Copy)]
 struct Printed {
     at: usize,
     dests: [usize; SLOTS],

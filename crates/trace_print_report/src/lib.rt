@@ -1,4 +1,5 @@
 // An engine's outputs and answers as text (oracle/README.md, What is printed).
+#![tactic(auto)]
 
 mod answers;
 mod blocks;
@@ -7,7 +8,7 @@ pub use answers::{is_active, latest, latest_all, ramp, rate, unwritten};
 pub use blocks::outputs;
 
 // How outputs are printed.
-#[derive(Drop)]
+#[derive(Clone, Copy)]
 pub enum Print {
     Full,
     Hash,
@@ -16,14 +17,14 @@ pub enum Print {
 }
 
 // `canon`: -0 is printed as 0.
-#[derive(Drop)]
+#[derive(Clone, Copy)]
 pub struct How {
     pub print: Print,
     pub canon: bool,
 }
 
 // Where the output goes on, or the row by which the call was refused, with nothing printed.
-#[derive(Drop)]
+#[derive(Clone, Copy)]
 pub struct Told {
     pub code: u8,
     pub at: usize,

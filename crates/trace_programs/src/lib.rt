@@ -1,4 +1,6 @@
 // The lines that make programs and engines and install programs.
+#![tactic(auto)]
+
 mod programs;
 
 pub use programs::{LARGE_PROGRAM, Whole, number_of, put, whole_line};

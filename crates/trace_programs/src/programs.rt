@@ -18,7 +18,7 @@ const TABLE_NUMBERS: usize = 66690;
 
 // What a line about programs and the engine as a whole goes by and comes to. `program` is the one that the line names; after the line it is the one that has the
 // number i, where that is below 9.
-#[derive(Drop)]
+#[derive(Clone, Copy)]
 pub struct Whole {
     pub at: usize,
     pub code: u8,
@@ -44,7 +44,7 @@ pub fn number_of(line: &[u8], book: &mut [usize]) -> usize {
 
 // ---- what a program needs
 
-#[derive(Drop)]
+#[derive(Clone, Copy)]
 struct Needs {
     values: usize,
     audio: usize,
@@ -479,7 +479,7 @@ fn on_swap(t: Whole, i: usize, book: &mut [usize], values: &mut [f32], audio: &m
 
 // ---- a new engine
 
-#[derive(Drop)]
+#[derive(Clone, Copy)]
 struct EngineNeeds {
     held: usize,
     globals: usize,

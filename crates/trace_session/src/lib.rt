@@ -1,9 +1,11 @@
 // A session and one line of it more: the program that the line names is taken from the session's programs, the line is answered, and the program put back.
+#![tactic(auto)]
+
 use state::Program;
 use trace_lines_stage::State;
 
 // A session but for its memories: what it has said so far, and its programs.
-#[derive(Drop)]
+#[derive(Clone, Copy)]
 pub struct Session {
     pub state: State,
     pub shelf: [Program; 9],

@@ -1,4 +1,6 @@
 // Lines that bind signals, and what they are bound to. Samples and the tables of programs stand in one pool, behind the engine's bases.
+#![tactic(auto)]
+
 ghost use Rattle.std.specs.Prelude.{◌≡◌, length};
 
 use config::SOURCES;

@@ -320,7 +320,7 @@ fn note_code(table: usize, book: &[usize], numbers: &[f32], desk: usize) -> u8 {
 }
 
 // What a note's line says: which tables its curves name, and two marks.
-#[derive(Drop)]
+#[derive(Clone, Copy)]
 struct NoteLine {
     velocity: usize,
     key: usize,

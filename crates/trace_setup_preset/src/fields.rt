@@ -4,14 +4,14 @@ use curve_table::Curve;
 use state::{Aim, Pick, Polarity, Slot};
 
 // What a slot's line says: the slot, and which tables its curves name.
-#[derive(Drop)]
+#[derive(Clone, Copy)]
 pub struct SlotLine {
     pub slot: Slot,
     pub source_table: usize,
     pub aux_table: usize,
 }
 
-#[derive(Drop)]
+#[derive(Clone, Copy)]
 struct CurveWord {
     curve: Curve,
     table: usize,

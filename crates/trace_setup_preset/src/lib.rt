@@ -1,5 +1,7 @@
 // A session's lines about what a program is compiled from: the configuration, the registries, tables by name, slots and note curves. What they print is answered
 // as numbers.
+#![tactic(auto)]
+
 mod curves;
 mod entries;
 mod fields;
@@ -10,7 +12,7 @@ pub use entries::registry_line;
 use state::{Destinations, Matrix, Sources};
 
 // What a program is compiled from, but for the tables.
-#[derive(Drop)]
+#[derive(Clone, Copy)]
 pub struct Preset {
     pub config: Config,
     pub sources: Sources,
@@ -19,7 +21,7 @@ pub struct Preset {
 }
 
 // The preset after a line, with a row by which a call was refused or a number from 100 on, and what is printed.
-#[derive(Drop)]
+#[derive(Clone, Copy)]
 pub struct Changed {
     pub code: u8,
     pub a: usize,

@@ -1,4 +1,6 @@
 // The line `standard` (oracle/README.md, Setting up): the standard sources of its counts and audio keys, and the entries of a registry as text.
+#![tactic(auto)]
+
 ghost use Rattle.std.specs.Prelude.{◌≡◌, ◌+◌, ◌≤◌, length};
 
 use config::SOURCES;

@@ -1,5 +1,7 @@
 // What a session keeps in whole numbers, in one memory, the book: where the parts of the pools are, where named tables are, which lengths calls are lent, and
 // marks. Entry i of the parts has its place and its length in two numbers (as in `trace_store_names`).
+#![tactic(auto)]
+
 ghost use Rattle.std.specs.Prelude.{◌≤◌, length};
 
 // ---- entries of parts: those of programs by their number, and of sources by theirs
@@ -394,7 +396,7 @@ fn same_at(numbers: &[f32], a: usize, b: usize) -> bool {
     if numbers.len() <= b {
         return false;
     }
-    hex::bits_of(numbers[a]) == hex::bits_of(numbers[b])
+    hex_words::bits_of(numbers[a]) == hex_words::bits_of(numbers[b])
 }
 
 // whether n numbers from a and from b on are equal

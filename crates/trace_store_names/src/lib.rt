@@ -1,5 +1,7 @@
 // The tables of a session by their names. The numbers of all tables stand in one memory, one table after the other; entry i of the
 // list has its name in a cell of `names`, and its place and length in two numbers of `places`.
+#![tactic(auto)]
+
 ghost use Rattle.std.specs.Prelude.{◌+◌, ◌≤◌, length};
 
 mod spec;

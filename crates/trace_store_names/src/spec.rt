@@ -2,7 +2,7 @@
 ghost use Rattle.std.specs.Prelude.{◌+◌, ◌<◌, ◌≤◌, length};
 
 // How many numbers were made; `code` is 0, 1 where an entry is not there, 2 where there is no room.
-#[derive(Drop)]
+#[derive(Clone, Copy)]
 pub struct TableMade {
     pub code: u8,
     pub len: usize,
@@ -23,7 +23,7 @@ fn no_room() -> TableMade {
 // ---- formulas
 
 // A table whose entry follows from its index alone.
-#[derive(Drop)]
+#[derive(Clone, Copy)]
 enum Shape {
     Linear,
     Reversed,
@@ -93,9 +93,9 @@ fn special(k: u64) -> f32 {
         1 => -1.0 / 0.0,
         2 => 0.0 / 0.0,
         3 => -0.0,
-        4 => hex::of_bits(1),
-        5 => hex::of_bits(0x7f7f_ffff),
-        6 => hex::of_bits(0xff7f_ffff),
+        4 => hex_words::of_bits(1),
+        5 => hex_words::of_bits(0x7f7f_ffff),
+        6 => hex_words::of_bits(0xff7f_ffff),
         _ => 1.0,
     }
 }
@@ -114,7 +114,7 @@ fn is_special(s: u64) -> bool {
 
 // a number's bits drawn whole
 fn raw(s: u64) -> f32 {
-    hex::of_bits((s >> 32) as u32)
+    hex_words::of_bits((s >> 32) as u32)
 }
 
 fn drawn_x(s: u64) -> f32 {

@@ -1,4 +1,6 @@
 // Programs by name: program 0 is called ~, the names of the others stand in the book.
+#![tactic(auto)]
+
 use trace_store_book::{BARE, INSTALLED, OUTSIDE, PROGRAMS, TITLE_CELLS, TITLES};
 
 // More programs than there are places, or longer names.

@@ -1,5 +1,7 @@
 // What notes do to the voices, to their marks and to their note values (engine.rs 450-520, 701-754). The definitions
 // that contracts cite are in specs/. Every call is total: a voice not below VOICES changes nothing.
+#![tactic(auto)]
+
 ghost use Rattle.std.specs.Prelude.{◌≡◌, true, ◌||◌, cond, map, ◌<◌, ◌≤◌, take};
 ghost use Rattle.config.specs.Sizes.{most_voices};
 ghost use Rattle.voice.specs.Joined.{joined};
@@ -14,14 +16,14 @@ use config::VOICES;
 
 // ---- voices
 
-#[derive(Drop)]
+#[derive(Clone, Copy)]
 pub enum Newest {
     Nobody,
     Voice(usize),
 }
 
 // Which voices sound, and how many sounded since each: the newest has rank 0.
-#[derive(Drop)]
+#[derive(Clone, Copy)]
 pub struct Voices {
     pub active: [bool; VOICES],
     pub rank: [u8; VOICES],
@@ -237,7 +239,7 @@ impl Voices {
 
 // Which voices start at their new values (fresh) and take new random numbers (renoted), and whether any was marked
 // since the last block.
-#[derive(Drop)]
+#[derive(Clone, Copy)]
 pub struct Marks {
     pub fresh: [bool; VOICES],
     pub any_fresh: bool,
@@ -351,21 +353,21 @@ impl Marks {
 // ---- note values
 
 // A note value's way to its target: the step is per sample, and 0 where it stands still.
-#[derive(Drop)]
+#[derive(Clone, Copy)]
 pub struct Glide {
     pub target: f32,
     pub step: f32,
 }
 
 // A legato time.
-#[derive(Drop)]
+#[derive(Clone, Copy)]
 pub enum Legato {
     NoGlide,
     Glide { seconds: f32 },
 }
 
 // The values that a note curve gave each voice.
-#[derive(Drop)]
+#[derive(Clone, Copy)]
 pub struct Notes {
     pub value: [f32; VOICES],
     pub glide: [Glide; VOICES],

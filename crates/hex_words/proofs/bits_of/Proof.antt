@@ -1,8 +1,8 @@
--- `hex::bits_of` meets its contract.
+-- `hex_words::bits_of` meets its contract.
 use borrow.Author.Rules.{rules}
-use Rattle.hex.proofs.Patterns.{pattern-of-nan, no_nan}
-use Rattle.hex.proofs.bits_of.Statement.{statement}
-use Rattle.hex.proofs.bits_of.Tie as tie
+use Rattle.hex_words.proofs.Patterns.{pattern-of-nan, no_nan}
+use Rattle.hex_words.proofs.bits_of.Statement.{statement}
+use Rattle.hex_words.proofs.bits_of.Tie as tie
 
 returns : tie.Need-returns
 returns c = pattern-of-nan _ c.if1.true

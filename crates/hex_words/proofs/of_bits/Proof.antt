@@ -1,9 +1,9 @@
--- `hex::of_bits` meets its contract.
+-- `hex_words::of_bits` meets its contract.
 use mathlib.Core.Path.{◌∙◌}
 use borrow.Author.Rules.{rules}
-use Rattle.hex.proofs.Patterns.{zero-over-zero, nan-above, number-below}
-use Rattle.hex.proofs.of_bits.Statement.{statement}
-use Rattle.hex.proofs.of_bits.Tie as tie
+use Rattle.hex_words.proofs.Patterns.{zero-over-zero, nan-above, number-below}
+use Rattle.hex_words.proofs.of_bits.Statement.{statement}
+use Rattle.hex_words.proofs.of_bits.Tie as tie
 
 returns : tie.Need-returns
 returns c = zero-over-zero ∙ nan-above c.before.args.n c.if1.true

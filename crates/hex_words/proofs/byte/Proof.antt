@@ -1,9 +1,9 @@
--- `hex::byte` meets its contract.
+-- `hex_words::byte` meets its contract.
 use mathlib.Core.Path.{sym}
 use lib.ListN.{get_or-eq_default}
 use borrow.Author.Rules.{rules}
-use Rattle.hex.proofs.byte.Statement.{statement}
-use Rattle.hex.proofs.byte.Tie as tie
+use Rattle.hex_words.proofs.byte.Statement.{statement}
+use Rattle.hex_words.proofs.byte.Tie as tie
 
 shared-slice-read-result : tie.Need-shared-slice-read-result
 shared-slice-read-result c = search rules

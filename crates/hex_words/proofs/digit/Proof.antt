@@ -1,12 +1,12 @@
--- `hex::digit` meets its contract.
+-- `hex_words::digit` meets its contract.
 use mathlib.Core.Path.{◌≡◌}
 use Prim.Native.Nat.{ℕ}
 use native.Mathlib.Omega.{arith}
 use borrow.Author.Rules.{rules}
 use borrow.Author.Tests.{lt-ltb, le-ltb}
-use Rattle.hex.specs.Hex.{digit_of}
-use Rattle.hex.proofs.digit.Statement.{statement}
-use Rattle.hex.proofs.digit.Tie as tie
+use Rattle.hex_words.specs.Hex.{digit_of}
+use Rattle.hex_words.proofs.digit.Statement.{statement}
+use Rattle.hex_words.proofs.digit.Tie as tie
 
 cast-result : tie.Need-overflow-cast-result
 cast-result c = search rules

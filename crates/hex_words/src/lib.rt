@@ -1,8 +1,10 @@
 // Numbers as text: hexadecimal words, and the bits of a binary32.
+#![tactic(auto)]
+
 ghost use Rattle.std.specs.Prelude.{◌≡◌, ◌<◌, ◌^◌, ◌+◌, get_or};
 ghost use Rattle.std.specs.Float.{binary32};
 ghost use Rattle.std.specs.Float.Ieee.{of_bits, to_bits};
-ghost use Rattle.hex.specs.Hex.{digit_of, hex_at};
+ghost use Rattle.hex_words.specs.Hex.{digit_of, hex_at};
 
 // the number of a bit pattern; every NaN's pattern is the NaN
 pub fn of_bits(n: u32) -> f32

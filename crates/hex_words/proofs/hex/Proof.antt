@@ -1,4 +1,4 @@
--- `hex::hex` meets its contract. The value is that of the digits passed.
+-- `hex_words::hex` meets its contract. The value is that of the digits passed.
 use mathlib.Core.Path.{◌≡◌, refl, sym, ◌∙◌, ap}
 use mathlib.Core.List.{List}
 use Prim.Native.Nat.{ℕ, ◌+◌, ◌*◌, ◌%◌, ◌^◌, ◌≤◌, ◌<◌, ◌-◌}
@@ -6,9 +6,9 @@ use native.Mathlib.Numerals.{add-one}
 use native.Mathlib.Omega.{arith}
 use lib.ListN.{get_or}
 use borrow.Author.Rules.{rules}
-use Rattle.hex.specs.Hex.{hex_at, digit_of}
-use Rattle.hex.proofs.hex.Statement.{statement}
-use Rattle.hex.proofs.hex.Tie as tie
+use Rattle.hex_words.specs.Hex.{hex_at, digit_of}
+use Rattle.hex_words.proofs.hex.Statement.{statement}
+use Rattle.hex_words.proofs.hex.Tie as tie
 
 hex-next : (s : List ℕ) (at i : ℕ) → hex_at s at (i + 1) ≡ hex_at s at i % 2 ^ 60 * 16 + digit_of (get_or s (at + i) 0)
 unfolding hex_at
