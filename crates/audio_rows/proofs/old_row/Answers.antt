@@ -1,0 +1,20 @@
+use borrow.Author.Rules.{rules}
+use mathlib.Core.Path.{◌≡◌}
+use Prim.Native.Nat.{◌-◌, ◌≤◌}
+use native.Mathlib.Omega.{arith}
+use lib.ListN.{length}
+use Rattle.model.specs.Tick.{lanes_from}
+use Rattle.plan_slews.specs.Rows.{IsRow}
+use Rattle.plan_slews.proofs.Lanes.{row_more, row-fewer}
+use Rattle.audio_rows.proofs.old_row.Goals as goal
+
+pub loop-l-init : goal.loop-l-init
+loop-l-init c = (search rules, search rules, search rules, λ m h. absurd (omega arith))
+
+pub loop-l-preserved : goal.loop-l-preserved
+loop-l-preserved c = let l = c.loop-l in
+    (omega arith, l.invariant.1, search rules, row_more _ l.out l.l _ (omega arith) l.invariant.3 c.lane_from.ensures)
+
+pub returns : goal.returns
+returns c = let l = c.loop-l in
+    row-fewer _ l.out (omega arith) l.invariant.3

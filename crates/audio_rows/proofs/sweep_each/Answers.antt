@@ -1,0 +1,80 @@
+use mathlib.Core.Path.{◌≡◌, refl, sym, ap, ap₂, ◌∙◌}
+use mathlib.Core.List.{List}
+use Prim.Native.Nat.{ℕ, ◌+◌, ◌-◌, ◌≤◌, ◌<◌}
+use native.Mathlib.Omega.{arith}
+use lib.ListN.{length}
+use lib.Ieee.{Float}
+use Rattle.list.proofs.Elements.{get_or-inside, length-mapped}
+use Rattle.state_filled.specs.Filled.{no_plan}
+use Rattle.state.specs.declared.State.{State}
+use Rattle.model.specs.Audio.{Sounds, audio_plans}
+use Rattle.plan_sweep.specs.declared.Pass.{Pass}
+use Rattle.plan_sweep.specs.Sweep.{swept_rows}
+use Rattle.audio_rows.specs.declared.Work.{Work}
+use Rattle.audio_rows.specs.Rows.{sounds}
+use Rattle.audio_rows.specs.Work.{Installed, work_env}
+use Rattle.audio_rows.specs.Passes.{Prepared}
+use Rattle.audio_rows.proofs.Chunk.{plans-none, plans-end}
+use Rattle.audio_rows.proofs.Sweeps.{within, plans-swept, ready-less, rows-room, swept-at, plan-fits}
+use borrow.Author.Rules.{rules}
+use Rattle.audio_rows.proofs.sweep_each.Goals as goal
+
+pub loop-k-init : goal.loop-k-init
+loop-k-init c = (search rules, search rules, search (rules, length-mapped), λ st w h b v i z. plans-none st w i h _ _ b _ _ _)
+
+pub overflow_add-d : goal.overflow_add-d
+overflow_add-d c = omega (arith, c.requires.0.plans)
+
+pub offset_bounds-plans-d : goal.offset_bounds-plans-d
+offset_bounds-plans-d c = omega (arith, c.requires.0.plans)
+
+pub bounds-plans-d : goal.bounds-plans-d
+bounds-plans-d c = omega (arith, c.requires.0.plans, c.loop-k.invariant.2)
+
+pub pass_of-pass-requires : goal.pass_of-pass-requires
+pass_of-pass-requires c =
+    let a = c.args in
+    let i = c.loop-k in
+    let near : a.control + i.k < length a.plans = omega (arith, i.invariant.2, c.requires.0.plans, c.loop-k-test.true) in
+    plan-fits a.field a.plans (a.control + i.k) a.steps.now a.offsets.now (get_or-inside a.plans (a.control + i.k) _ no_plan near) (c.requires.1 i.k c.loop-k-test.true) c.requires.0.offsets
+
+pub audio_at-a-requires : goal.audio_at-a-requires
+audio_at-a-requires c = let z = c.requires.0 in
+    (z.stride, z.frames, omega (arith, z.plans, c.loop-k-test.true), z.stride, omega (arith, z.end, z.frames))
+
+pub sweep_plan-requires : goal.sweep_plan-requires
+sweep_plan-requires c = let a = c.args in
+    let i = c.loop-k in
+    let pass = c.pass_of-pass.ensures in
+    let near : a.control + i.k < length a.plans = omega (arith, i.invariant.2, c.requires.0.plans, c.loop-k-test.true) in
+    let ready = ready-less a.field a.chunk (a.control + a.count) (a.control + i.k + 1) (length a.audio.now) (length i.audio) a.samples.now a.starts.now a.steps.now a.gains.now a.offsets.now (omega (arith, c.loop-k-test.true)) (sym i.invariant.1) c.requires.0 in (
+      within a.field a.chunk (a.control + i.k) (length i.audio) a.samples.now a.starts.now a.steps.now a.gains.now a.offsets.now _ _ pass ready
+          (swept-at a.field a.plans (a.control + i.k) a.steps.now (get_or-inside a.plans (a.control + i.k) _ no_plan near) (c.requires.1 i.k c.loop-k-test.true)),
+      rows-room a.field a.chunk (a.control + i.k) (length i.audio) _ _ a.samples.now a.starts.now a.steps.now a.gains.now a.offsets.now c.audio_at-a.ensures.0 (ap (λ (z : Pass). z.width) pass) ready,
+    )
+
+pub overflow_add-k : goal.overflow_add-k
+overflow_add-k c = omega (arith, c.requires.0.plans, c.loop-k-test.true)
+
+pub loop-k-smaller : goal.loop-k-smaller
+loop-k-smaller c = omega (arith, c.loop-k-test.true)
+
+pub loop-k-preserved : goal.loop-k-preserved
+loop-k-preserved c = let a = c.args in
+    let i = c.loop-k in
+    let near : a.control + i.k < length a.plans = omega (arith, i.invariant.2, c.requires.0.plans, c.loop-k-test.true) in (
+      omega (arith, c.loop-k-test.true),
+      search rules,
+      i.invariant.2,
+      λ st w h b v e z.
+          plans-swept st w e h a.globals.now a.bases.now b a.samples.now a.chunk a.field a.plans a.control a.levels a.starts.now a.steps.now a.gains.now a.offsets.now z i.k _
+          (get_or-inside a.plans (a.control + i.k) _ no_plan near)
+          (swept-at a.field a.plans (a.control + i.k) a.steps.now (get_or-inside a.plans (a.control + i.k) _ no_plan near) (c.requires.1 i.k c.loop-k-test.true))
+          _ v i.audio _ (i.invariant.3 st w h b v e z)
+          (c.sweep_plan.ensures
+          ∙ ap₂ (λ (z : Pass) (n : ℕ). swept_rows a.starts.now a.steps.now a.gains.now a.samples.now z n a.chunk.start a.chunk.len i.audio) c.pass_of-pass.ensures c.audio_at-a.ensures.0),
+    )
+
+pub returns : goal.returns
+returns c = let i = c.loop-k in
+    λ st w h b v e z. plans-end st w e h _ _ b _ _ i.k _ _ _ (i.invariant.3 st w h b v e z) (omega arith)

@@ -1,0 +1,29 @@
+-- `audio_rows::sweep_each` meets its contract. The invariant: the plans before k are done.
+use mathlib.Core.Path.{◌≡◌, refl, sym, ap, ap₂, ◌∙◌}
+use mathlib.Core.List.{List}
+use Prim.Native.Nat.{ℕ, ◌+◌, ◌-◌, ◌≤◌, ◌<◌}
+use native.Mathlib.Omega.{arith}
+use lib.ListN.{length}
+use lib.Ieee.{Float}
+use Rattle.list.proofs.Elements.{get_or-inside, length-mapped}
+use Rattle.state_filled.specs.Filled.{no_plan}
+use Rattle.state.specs.declared.State.{State}
+use Rattle.model.specs.Audio.{Sounds, audio_plans}
+use Rattle.plan_sweep.specs.declared.Pass.{Pass}
+use Rattle.plan_sweep.specs.Sweep.{swept_rows}
+use Rattle.audio_rows.specs.declared.Work.{Work}
+use Rattle.audio_rows.specs.Rows.{sounds}
+use Rattle.audio_rows.specs.Work.{Installed, work_env}
+use Rattle.audio_rows.specs.Passes.{Prepared}
+use Rattle.audio_rows.proofs.Chunk.{plans-none, plans-end}
+use Rattle.audio_rows.proofs.Sweeps.{within, plans-swept, ready-less, rows-room, swept-at, plan-fits}
+use borrow.Author.Rules.{rules}
+use Rattle.audio_rows.proofs.sweep_each.Given as goal
+
+abbrev pub invariant-loop-k : goal.invariant-loop-k
+invariant-loop-k l = (l.k ≤ l.count) × (length l.audio ≡ length l.initial.audio) × (length l.plans ≡ 64)
+    × ((st : State) (w : Work) (h b v : List Float) → Installed st w → Prepared w l.chunk l.field l.plans l.control l.levels l.samples l.starts l.steps l.gains l.offsets
+    → sounds v l.audio ≡ audio_plans st (work_env w h l.globals l.bases b l.samples) l.chunk l.k (sounds v l.initial.audio))
+
+abbrev pub decreases-loop-k : goal.decreases-loop-k
+decreases-loop-k l = l.count - l.k

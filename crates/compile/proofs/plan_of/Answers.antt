@@ -1,0 +1,6 @@
+-- `compile::plan_of` meets its contract.
+use borrow.Author.Rules.{rules}
+use Rattle.compile.proofs.plan_of.Goals as goal
+
+pub returns : goal.returns
+returns c = rw (c.plan_by.ensures, c.counted-base.ensures, c.is_audio-audio.ensures)

@@ -1,0 +1,6 @@
+-- `compile_feeds::audio_source` meets its contract.
+use borrow.Author.Rules.{rules}
+use Rattle.compile_feeds.proofs.audio_source.Goals as goal
+
+pub returns : goal.returns
+returns c = rw (c.is_audio_kind.ensures, c.source_at-s.ensures)

@@ -1,0 +1,10 @@
+-- `compile_feeds::counted_amount` meets its contract.
+use borrow.Author.Tests.{lt-ltb, le-ltb}
+use borrow.Author.Rules.{rules}
+use Rattle.compile_feeds.proofs.counted_amount.Goals as goal
+
+pub returns-then-n-lt-SLOTS : goal.returns-then-n-lt-SLOTS
+returns-then-n-lt-SLOTS c = rw (lt-ltb _ _ c.if-n-lt-SLOTS.true)
+
+pub returns : goal.returns
+returns c = rw (le-ltb _ _ c.if-n-lt-SLOTS.false)

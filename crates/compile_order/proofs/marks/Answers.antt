@@ -1,0 +1,22 @@
+use mathlib.Core.Bool.{false}
+use Prim.Native.Nat.{◌≤◌, ◌-◌}
+use native.Mathlib.Omega.{arith}
+use borrow.Author.Rules.{rules}
+use lib.ListN.{replicate}
+use Rattle.list.proofs.Filled.{Filled, filled_none, filled_more, filled-all}
+use Rattle.feed.specs.Marks.{pairs}
+use Rattle.state_filled.specs.Filled.{readers_in, numbers_in}
+use Rattle.compile_order.specs.Marks.{mark_at}
+use Rattle.compile_order.proofs.marks.Goals as goal
+
+pub loop-p-init : goal.loop-p-init
+loop-p-init c = (search rules, filled_none _ _)
+
+pub bounds-out-p : goal.bounds-out-p
+bounds-out-p c = omega (arith, c.loop-p.invariant.1.as_long)
+
+pub loop-p-preserved : goal.loop-p-preserved
+loop-p-preserved c = (search rules, filled_more c.loop-p.invariant.1 c.mark.ensures)
+
+pub returns : goal.returns
+returns c = filled-all c.loop-p.invariant.1 (omega arith)

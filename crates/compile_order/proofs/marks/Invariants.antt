@@ -1,0 +1,19 @@
+-- `compile_order::marks` meets its contract. The loop's invariant: the marks of the pairs below p stand.
+-- The measure is what is left of the pairs.
+use mathlib.Core.Bool.{false}
+use Prim.Native.Nat.{◌≤◌, ◌-◌}
+use native.Mathlib.Omega.{arith}
+use borrow.Author.Rules.{rules}
+use lib.ListN.{replicate}
+use Rattle.list.proofs.Filled.{Filled, filled_none, filled_more, filled-all}
+use Rattle.feed.specs.Marks.{pairs}
+use Rattle.state_filled.specs.Filled.{readers_in, numbers_in}
+use Rattle.compile_order.specs.Marks.{mark_at}
+use Rattle.compile_order.proofs.marks.Given as goal
+
+abbrev pub invariant-loop-p : goal.invariant-loop-p
+invariant-loop-p l =
+    (l.p ≤ pairs) × Filled (replicate pairs false) (mark_at (readers_in l.readers) (numbers_in l.control)) l.p l.out
+
+abbrev pub decreases-loop-p : goal.decreases-loop-p
+decreases-loop-p l = pairs - l.p

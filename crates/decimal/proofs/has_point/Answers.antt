@@ -1,0 +1,8 @@
+-- `decimal::has_point` meets its contract. Assumes nothing.
+use Rattle.decimal.specs.Decimal.{lead, has_point}
+use borrow.Author.Rules.{rules}
+use Rattle.decimal.proofs.has_point.Goals as goal
+
+pub returns : goal.returns
+unfolding has_point
+returns c = rw (c.lead.ensures, c.rest.ensures)

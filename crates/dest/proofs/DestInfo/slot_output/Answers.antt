@@ -1,0 +1,6 @@
+-- `dest::DestInfo::slot_output` meets its contract.
+use borrow.Author.Rules.{rules}
+use Rattle.dest.proofs.DestInfo.slot_output.Goals as goal
+
+pub returns : goal.returns
+returns c = rw c.param.ensures at c.feeds.ensures

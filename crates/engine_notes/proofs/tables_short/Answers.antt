@@ -1,0 +1,10 @@
+-- `engine_notes::tables_short` meets its contract.
+use borrow.Author.Tests.{not-true, not-false}
+use Rattle.engine_notes.proofs.Steps.{none-short}
+use Rattle.engine_notes.proofs.tables_short.Goals as goal
+
+pub returns-then-not-tabled : goal.returns-then-not-tabled
+returns-then-not-tabled c = simp (not-true c.args.tabled c.if-not-tabled.true, none-short)
+
+pub returns : goal.returns
+returns c = simp (not-false c.args.tabled c.if-not-tabled.false)

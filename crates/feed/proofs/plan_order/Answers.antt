@@ -1,0 +1,8 @@
+-- `feed::plan_order` meets its contract. Assumes nothing.
+use borrow.Author.Rules.{rules}
+use Rattle.feed.specs.Marks.{plan_order}
+use Rattle.feed.proofs.plan_order.Goals as goal
+
+pub returns : goal.returns
+unfolding plan_order
+returns c = cc (c.places.ensures, c.held-count.ensures)

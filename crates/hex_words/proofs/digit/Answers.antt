@@ -1,0 +1,36 @@
+-- `hex_words::digit` meets its contract.
+use mathlib.Core.Path.{◌≡◌}
+use Prim.Native.Nat.{ℕ}
+use native.Mathlib.Omega.{arith}
+use borrow.Author.Rules.{rules}
+use borrow.Author.Tests.{lt-ltb, le-ltb}
+use Rattle.hex_words.specs.Hex.{digit_of}
+use Rattle.hex_words.proofs.digit.Goals as goal
+
+pub returns-then-b-lt48 : goal.returns-then-b-lt48
+unfolding digit_of
+returns-then-b-lt48 c = (simp (lt-ltb _ _ c.if-b-lt48.true), omega arith)
+
+pub returns-then-b-lt58 : goal.returns-then-b-lt58
+unfolding digit_of
+returns-then-b-lt58 c = (simp (le-ltb _ _ c.if-b-lt48.false, lt-ltb _ _ c.if-b-lt58.true), omega arith)
+
+pub returns-then-b-lt65 : goal.returns-then-b-lt65
+unfolding digit_of
+returns-then-b-lt65 c = (simp (le-ltb _ _ c.if-b-lt48.false, le-ltb _ _ c.if-b-lt58.false, lt-ltb _ _ c.if-b-lt65.true), omega arith)
+
+pub returns-then-b-lt71 : goal.returns-then-b-lt71
+unfolding digit_of
+returns-then-b-lt71 c = (simp (le-ltb _ _ c.if-b-lt48.false, le-ltb _ _ c.if-b-lt58.false, le-ltb _ _ c.if-b-lt65.false, lt-ltb _ _ c.if-b-lt71.true), omega arith)
+
+pub returns-then-b-lt97 : goal.returns-then-b-lt97
+unfolding digit_of
+returns-then-b-lt97 c = (simp (le-ltb _ _ c.if-b-lt48.false, le-ltb _ _ c.if-b-lt58.false, le-ltb _ _ c.if-b-lt65.false, le-ltb _ _ c.if-b-lt71.false, lt-ltb _ _ c.if-b-lt97.true), omega arith)
+
+pub returns-then-b-lt103 : goal.returns-then-b-lt103
+unfolding digit_of
+returns-then-b-lt103 c = (simp (le-ltb _ _ c.if-b-lt48.false, le-ltb _ _ c.if-b-lt58.false, le-ltb _ _ c.if-b-lt65.false, le-ltb _ _ c.if-b-lt71.false, le-ltb _ _ c.if-b-lt97.false, lt-ltb _ _ c.if-b-lt103.true), omega arith)
+
+pub returns-else-b-lt103 : goal.returns-else-b-lt103
+unfolding digit_of
+returns-else-b-lt103 c = (simp (le-ltb _ _ c.if-b-lt48.false, le-ltb _ _ c.if-b-lt58.false, le-ltb _ _ c.if-b-lt65.false, le-ltb _ _ c.if-b-lt71.false, le-ltb _ _ c.if-b-lt97.false, le-ltb _ _ c.if-b-lt103.false), omega arith)

@@ -1,0 +1,10 @@
+-- `lane_input::curved` meets its contract.
+use borrow.Author.Rules.{rules}
+use borrow.Author.Tests.{not-true, not-false}
+use Rattle.lane_input.proofs.curved.Goals as goal
+
+pub returns-then-not-table : goal.returns-then-not-table
+returns-then-not-table c = λ t e. rw (not-true c.args.table c.if-not-table.true)
+
+pub returns : goal.returns
+returns c = λ t e. rw (not-false c.args.table c.if-not-table.false, e) c.look_up.ensures

@@ -1,0 +1,8 @@
+-- `lane_input::in_group` meets its contract.
+use borrow.Author.Rules.{rules}
+use Rattle.model.specs.Lanes.{in_group}
+use Rattle.lane_input.proofs.in_group.Goals as goal
+
+pub returns : goal.returns
+unfolding in_group
+returns c = λ t e. rw (e, ← c.group_of.ensures.0) c.any_from.ensures

@@ -1,0 +1,22 @@
+-- `lane_input::snap_of` meets its contract.
+use borrow.Author.Rules.{rules}
+use mathlib.Core.Path.{sym, ◌∙◌}
+use lib.Ieee.{of_bits}
+use borrow.Author.Tests.{not-true, not-false}
+use Rattle.lane_input.proofs.snap_of.Goals as goal
+
+pub returns-then-not-voice : goal.returns-then-not-voice
+unfolding of_bits
+returns-then-not-voice c = λ t e d. rw (not-true c.args.voice c.if-not-voice.true)
+
+pub returns-then-not-snap : goal.returns-then-not-snap
+unfolding of_bits
+returns-then-not-snap c = λ t e d. rw (not-false c.args.voice c.if-not-voice.false, e, not-true c.args.snap c.if-not-snap.true)
+
+pub returns-then-mark_at : goal.returns-then-mark_at
+unfolding of_bits
+returns-then-mark_at c = λ t e d. rw (not-false c.args.voice c.if-not-voice.false, e, not-false c.args.snap c.if-not-snap.false, d, sym c.mark_at.ensures ∙ c.if-mark_at.true)
+
+pub returns : goal.returns
+unfolding of_bits
+returns c = λ t e d. rw (not-false c.args.voice c.if-not-voice.false, e, not-false c.args.snap c.if-not-snap.false, d, sym c.mark_at.ensures ∙ c.if-mark_at.false)

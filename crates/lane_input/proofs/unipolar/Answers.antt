@@ -1,0 +1,8 @@
+-- `lane_input::unipolar` meets its contract.
+use borrow.Author.Rules.{rules}
+use lib.Ieee.{of_bits}
+use Rattle.lane_input.proofs.unipolar.Goals as goal
+
+pub returns-then-bipolar : goal.returns-then-bipolar
+unfolding of_bits
+returns-then-bipolar c = rw c.if-bipolar.true

@@ -1,0 +1,20 @@
+use mathlib.Core.Path.{◌≡◌, refl}
+use Prim.Native.Nat.{ℕ, ◌+◌, ◌-◌, ◌*◌, ◌≤◌, ◌<◌}
+use native.Mathlib.Omega.{arith}
+use lib.ListN.{length}
+use lib.Ieee.{Float, of_bits}
+use Rattle.plan_sum.proofs.Lanes.{Laned, laned-none, laned-more}
+use borrow.Author.Rules.{rules}
+use mathlib.Core.Bool.{true}
+use Rattle.model.specs.RouteValue.{spread}
+use Rattle.lanes16.proofs.doubled_lanes.Goals as goal
+
+pub loop-l-init : goal.loop-l-init
+loop-l-init c = (search rules, search rules, laned-none _ _)
+
+pub loop-l-preserved : goal.loop-l-preserved
+unfolding of_bits
+loop-l-preserved c = let i = c.loop-l in (omega arith, i.invariant.1, laned-more i.invariant.2 (omega arith) (refl))
+
+pub returns : goal.returns
+returns c = λ l h. c.loop-l.invariant.2.done l (omega arith)

@@ -1,0 +1,24 @@
+use mathlib.Core.Path.{◌≡◌}
+use mathlib.Core.Bool.{cond}
+use Prim.Native.Nat.{ℕ, ◌+◌, ◌-◌, ◌≤◌}
+use native.Mathlib.Omega.{arith}
+use lib.Dec.{ltb}
+use lib.ListN.{length}
+use lib.Ieee.{Float}
+use Rattle.number.specs.Number.{zero32}
+use Rattle.plan_sum.proofs.Lanes.{Laned, laned-none, laned-more}
+use borrow.Author.Rules.{rules}
+use Rattle.model.specs.Counts.{at}
+use Rattle.lanes16.proofs.narrow_lanes.Goals as goal
+
+pub loop-l-init : goal.loop-l-init
+loop-l-init c = (search rules, search rules, laned-none _ _)
+
+pub narrow-requires : goal.narrow-requires
+narrow-requires c = c.requires.0
+
+pub loop-l-preserved : goal.loop-l-preserved
+loop-l-preserved c = let i = c.loop-l in (omega arith, i.invariant.1, laned-more i.invariant.2 (omega arith) c.narrow.ensures)
+
+pub returns : goal.returns
+returns c = λ l h. c.loop-l.invariant.2.done l (omega arith)

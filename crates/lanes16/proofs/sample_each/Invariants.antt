@@ -1,0 +1,17 @@
+-- `lanes16::sample_each` meets its contract. The invariant: the lanes below l are done.
+use mathlib.Core.Path.{◌≡◌}
+use mathlib.Core.Bool.{true}
+use Prim.Native.Nat.{ℕ, ◌+◌, ◌-◌, ◌≤◌}
+use native.Mathlib.Omega.{arith}
+use lib.ListN.{length}
+use lib.Ieee.{Float}
+use Rattle.plan_sum.proofs.Lanes.{Laned, laned-none, laned-more}
+use borrow.Author.Rules.{rules}
+use Rattle.model.specs.Env.{sample_in}
+use Rattle.lanes16.proofs.sample_each.Given as goal
+
+abbrev pub invariant-loop-l : goal.invariant-loop-l
+invariant-loop-l l = (l.l ≤ 16) × (length l.initial.out ≡ 16) × Laned (λ (i : ℕ) (y z : Float). z ≡ sample_in l.samples l.part l.frame true (l.lane + i)) l.l l.initial.out l.out
+
+abbrev pub decreases-loop-l : goal.decreases-loop-l
+decreases-loop-l l = 16 - l.l

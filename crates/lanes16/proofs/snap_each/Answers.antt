@@ -1,0 +1,21 @@
+use mathlib.Core.Path.{◌≡◌, refl}
+use Prim.Native.Nat.{ℕ, ◌+◌, ◌-◌, ◌*◌, ◌≤◌, ◌<◌}
+use native.Mathlib.Omega.{arith}
+use lib.ListN.{length}
+use lib.Ieee.{Float, of_bits}
+use Rattle.plan_sum.proofs.Lanes.{Laned, laned-none, laned-more}
+use borrow.Author.Rules.{rules}
+use Rattle.model.specs.Env.{Env, Rows, Own}
+use mathlib.Core.Bool.{Bool, true}
+use mathlib.Core.List.{List}
+use Rattle.model.specs.Lanes.{snap_of}
+use Rattle.lanes16.proofs.snap_each.Goals as goal
+
+pub loop-l-init : goal.loop-l-init
+loop-l-init c = (search rules, search rules, laned-none _ _)
+
+pub loop-l-preserved : goal.loop-l-preserved
+loop-l-preserved c = let i = c.loop-l in (omega arith, i.invariant.1, laned-more i.invariant.2 (omega arith) c.snap_of.ensures)
+
+pub returns : goal.returns
+returns c = λ t a b l h. c.loop-l.invariant.2.done l (omega arith) t a b

@@ -1,0 +1,17 @@
+-- `lanes16::step_lanes` meets its contract. The invariant: the lanes below l are done.
+use mathlib.Core.Path.{◌≡◌, refl}
+use Prim.Native.Nat.{ℕ, ◌+◌, ◌-◌, ◌*◌, ◌≤◌, ◌<◌}
+use native.Mathlib.Omega.{arith}
+use lib.ListN.{length}
+use lib.Ieee.{Float, of_bits}
+use Rattle.plan_sum.proofs.Lanes.{Laned, laned-none, laned-more}
+use borrow.Author.Rules.{rules}
+use Rattle.model.specs.Counts.{at}
+use Rattle.slew.specs.Slew.{slew_step}
+use Rattle.lanes16.proofs.step_lanes.Given as goal
+
+abbrev pub invariant-loop-l : goal.invariant-loop-l
+invariant-loop-l l = (l.l ≤ 16) × (length l.initial.out ≡ 16) × (length l.snap ≡ 16) × (length l.prev ≡ 16) × Laned (λ (i : ℕ) (y z : Float). z ≡ slew_step l.up l.down (at l.snap i) (at l.prev i) y) l.l l.initial.out l.out
+
+abbrev pub decreases-loop-l : goal.decreases-loop-l
+decreases-loop-l l = 16 - l.l

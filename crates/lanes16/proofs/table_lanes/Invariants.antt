@@ -1,0 +1,17 @@
+-- `lanes16::table_lanes` meets its contract. The invariant: the lanes below l are done.
+use mathlib.Core.Path.{◌≡◌, refl}
+use Prim.Native.Nat.{ℕ, ◌+◌, ◌-◌, ◌*◌, ◌≤◌, ◌<◌}
+use native.Mathlib.Omega.{arith}
+use lib.ListN.{length}
+use lib.Ieee.{Float, of_bits}
+use Rattle.plan_sum.proofs.Lanes.{Laned, laned-none, laned-more}
+use borrow.Author.Rules.{rules}
+use Rattle.list.specs.Rows.{row_at}
+use Rattle.curve_table.specs.Table.{points, lookup_of}
+use Rattle.lanes16.proofs.table_lanes.Given as goal
+
+abbrev pub invariant-loop-l : goal.invariant-loop-l
+invariant-loop-l l = (l.l ≤ 16) × (length l.initial.out ≡ 16) × Laned (λ (i : ℕ) (y z : Float). z ≡ lookup_of (row_at l.tables points l.place) y) l.l l.initial.out l.out
+
+abbrev pub decreases-loop-l : goal.decreases-loop-l
+decreases-loop-l l = 16 - l.l

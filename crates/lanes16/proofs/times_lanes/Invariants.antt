@@ -1,0 +1,17 @@
+-- `lanes16::times_lanes` meets its contract. The invariant: the lanes below l are done.
+use mathlib.Core.Path.{◌≡◌, refl}
+use Prim.Native.Nat.{ℕ, ◌+◌, ◌-◌, ◌*◌, ◌≤◌, ◌<◌}
+use native.Mathlib.Omega.{arith}
+use lib.ListN.{length}
+use lib.Ieee.{Float, of_bits}
+use Rattle.plan_sum.proofs.Lanes.{Laned, laned-none, laned-more}
+use borrow.Author.Rules.{rules}
+use Rattle.model.specs.Counts.{at}
+use Rattle.number.specs.Number.{one32, plus, less, times, nearest32}
+use Rattle.lanes16.proofs.times_lanes.Given as goal
+
+abbrev pub invariant-loop-l : goal.invariant-loop-l
+invariant-loop-l l = (l.l ≤ 16) × (length l.initial.out ≡ 16) × (length l.b ≡ 16) × Laned (λ (i : ℕ) (y z : Float). z ≡ times y (at l.b i)) l.l l.initial.out l.out
+
+abbrev pub decreases-loop-l : goal.decreases-loop-l
+decreases-loop-l l = 16 - l.l

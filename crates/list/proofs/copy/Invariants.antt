@@ -1,0 +1,15 @@
+-- `list::copy` meets its contract. The loop's invariant: the elements below i are those of xs. Assumes nothing.
+use mathlib.Core.Path.{refl, ◌∙◌}
+use Prim.Native.Nat.{◌≤◌, ◌-◌}
+use native.Mathlib.Omega.{arith}
+use lib.ListN.{length, get_or}
+use lib.Ieee.{nan}
+use Rattle.list.proofs.Filled.{Filled, filled_none, filled_more, filled-all, fill-copy}
+use borrow.Author.Rules.{rules}
+use Rattle.list.proofs.copy.Given as goal
+
+abbrev pub invariant-loop-i : goal.invariant-loop-i
+invariant-loop-i l = (l.i ≤ length l.initial.out) × Filled l.initial.out (λ k. get_or l.xs k nan) l.i l.out
+
+abbrev pub decreases-loop-i : goal.decreases-loop-i
+decreases-loop-i l = length l.initial.out - l.i

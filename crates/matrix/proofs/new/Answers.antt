@@ -1,0 +1,8 @@
+-- `matrix::new` meets its contract.
+use borrow.Author.Rules.{rules}
+use Rattle.slots.specs.Matrix.{new_matrix}
+use Rattle.matrix.proofs.new.Goals as goal
+
+pub returns : goal.returns
+unfolding new_matrix
+returns c = rw c.empty_slot-empty.ensures

@@ -1,0 +1,8 @@
+-- `matrix::remove` meets its contract.
+use borrow.Author.Rules.{rules}
+use Rattle.matrix.specs.Edits.{edited, remove_slot}
+use Rattle.matrix.proofs.remove.Goals as goal
+
+pub returns : goal.returns
+unfolding remove_slot edited
+returns c = cc (c.slot_code.ensures, c.empty_slot.ensures, c.answer.ensures)

@@ -1,0 +1,8 @@
+-- `matrix::set_aux` meets its contract.
+use borrow.Author.Rules.{rules}
+use Rattle.matrix.specs.Edits.{edited, set_aux}
+use Rattle.matrix.proofs.set_aux.Goals as goal
+
+pub returns : goal.returns
+unfolding set_aux edited
+returns c = cc (c.slot_code.ensures, c.slot_of.ensures, c.with_aux.ensures, c.answer.ensures)

@@ -1,0 +1,8 @@
+-- `matrix::set_bypass` meets its contract.
+use borrow.Author.Rules.{rules}
+use Rattle.matrix.specs.Edits.{edited, set_bypass}
+use Rattle.matrix.proofs.set_bypass.Goals as goal
+
+pub returns : goal.returns
+unfolding set_bypass edited
+returns c = cc (c.slot_code.ensures, c.slot_of.ensures, c.with_bypass.ensures, c.answer.ensures)

@@ -1,0 +1,8 @@
+-- `matrix::set_linear` meets its contract.
+use borrow.Author.Rules.{rules}
+use Rattle.matrix.specs.Edits.{edited, set_linear}
+use Rattle.matrix.proofs.set_linear.Goals as goal
+
+pub returns : goal.returns
+unfolding set_linear edited
+returns c = cc (c.slot_code.ensures, c.slot_of.ensures, c.with_curve.ensures, c.answer.ensures)

@@ -1,0 +1,8 @@
+-- `matrix::set_polarity` meets its contract.
+use borrow.Author.Rules.{rules}
+use Rattle.matrix.specs.Edits.{edited, set_polarity}
+use Rattle.matrix.proofs.set_polarity.Goals as goal
+
+pub returns : goal.returns
+unfolding set_polarity edited
+returns c = cc (c.slot_code.ensures, c.slot_of.ensures, c.with_polarity.ensures, c.answer.ensures)

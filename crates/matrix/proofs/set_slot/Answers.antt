@@ -1,0 +1,8 @@
+-- `matrix::set_slot` meets its contract.
+use borrow.Author.Rules.{rules}
+use Rattle.matrix.specs.Edits.{edited, set_slot}
+use Rattle.matrix.proofs.set_slot.Goals as goal
+
+pub returns : goal.returns
+unfolding set_slot edited
+returns c = cc (c.numbers_finite.ensures, c.slot_and_number_code.ensures, c.answer.ensures)

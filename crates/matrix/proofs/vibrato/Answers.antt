@@ -1,0 +1,8 @@
+-- `matrix::vibrato` meets its contract.
+use Rattle.matrix.specs.Routes.{add_vibrato}
+use borrow.Author.Rules.{rules}
+use Rattle.matrix.proofs.vibrato.Goals as goal
+
+pub returns : goal.returns
+unfolding add_vibrato
+returns c = cc (c.kept_amount.ensures, c.route_slot-route.ensures, c.with_aux-with_wheel.ensures, c.first_empty.ensures, c.place_at.ensures)

@@ -1,0 +1,15 @@
+-- `matrix_editing::both_finite` meets its contract.
+use mathlib.Core.Path.{sym, ◌∙◌}
+use borrow.Author.Tests.{not-true, not-false}
+use Rattle.list.proofs.Bools.{and-false, and-true}
+use Rattle.matrix_editing.specs.Drag.{both_finite}
+use borrow.Author.Rules.{rules}
+use Rattle.matrix_editing.proofs.both_finite.Goals as goal
+
+pub returns-then-not-is_finite : goal.returns-then-not-is_finite
+unfolding both_finite
+returns-then-not-is_finite c = and-false _ (sym c.is_finite.ensures ∙ not-true _ c.if-not-is_finite.true)
+
+pub returns : goal.returns
+unfolding both_finite
+returns c = c.is_finite-2.ensures ∙ and-true (sym c.is_finite.ensures ∙ not-false _ c.if-not-is_finite.false)

@@ -1,0 +1,28 @@
+use borrow.Author.Rules.{rules}
+use mathlib.Core.Path.{◌≡◌}
+use Prim.Native.Nat.{◌-◌, ◌≤◌}
+use native.Mathlib.Omega.{arith}
+use lib.ListN.{length}
+use Rattle.model.specs.Env.{Env, Rows, Own}
+use Rattle.model.specs.Mix.{Mix}
+use Rattle.model.specs.Tick.{lanes_from, held_sum, new_from}
+use Rattle.plan_slews.specs.Rows.{IsRow}
+use Rattle.plan_slews.specs.Seen.{Ticks}
+use Rattle.plan_slews.proofs.Lanes.{row_more, row-fewer}
+use Rattle.plan_slews.proofs.from_each.Goals as goal
+
+pub loop-l-init : goal.loop-l-init
+loop-l-init c = (search rules, search rules, search rules, λ t x f s k e m h. absurd (omega arith))
+
+pub loop-l-preserved : goal.loop-l-preserved
+loop-l-preserved c = let l = c.loop-l in (
+  omega arith,
+  l.invariant.1,
+  search rules,
+  λ t x f s k e.
+      row_more _ l.out l.l _ (omega arith) (l.invariant.3 t x f s k e) (c.from_lane.ensures t x f s _ _ k (e l.l (omega arith)) c.lane_from-old.ensures c.lane_from.ensures),
+)
+
+pub returns : goal.returns
+returns c = let l = c.loop-l in
+    λ t x f s k e. row-fewer _ l.out (omega arith) (l.invariant.3 t x f s k e)

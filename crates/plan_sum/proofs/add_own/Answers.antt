@@ -1,0 +1,10 @@
+-- `plan_sum::add_own` meets its contract.
+use borrow.Author.Rules.{rules}
+use borrow.Author.Tests.{not-true, not-false}
+use Rattle.plan_sum.proofs.add_own.Goals as goal
+
+pub returns-then-not-on : goal.returns-then-not-on
+returns-then-not-on c = λ t f s j sn fr v. rw (not-true c.args.on c.if-not-on.true)
+
+pub returns : goal.returns
+returns c = λ t f s j sn fr v. rw (not-false c.args.on c.if-not-on.false, ← c.lane_value.ensures t f s j sn fr v)

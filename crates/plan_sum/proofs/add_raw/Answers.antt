@@ -1,0 +1,30 @@
+use borrow.Author.Rules.{rules}
+use mathlib.Core.Path.{◌≡◌, refl, sym, ap, ◌∙◌}
+use Prim.Native.Nat.{ℕ, ◌+◌, ◌-◌, ◌*◌, ◌≤◌, ◌<◌}
+use native.Mathlib.Omega.{arith}
+use mathlib.Core.List.{List}
+use lib.Ieee.{Float}
+use lib.ListN.{length}
+use Rattle.number.specs.Number.{plus, times}
+use Rattle.state.specs.declared.Route.{Route}
+use Rattle.model.specs.Env.{Env, Rows, Own}
+use Rattle.model.specs.RouteValue.{raw_in}
+use Rattle.lane.specs.declared.View.{View}
+use Rattle.plan_sum.specs.Job.{Shown}
+use Rattle.plan_sum.proofs.Lanes.{Ranged, ranged-none, ranged-more, ranged-cond}
+use Rattle.plan_sum.proofs.add_raw.Goals as goal
+use Rattle.plan_sum.proofs.add_raw.Invariants.{Each}
+
+pub loop-l-init : goal.loop-l-init
+loop-l-init c = (omega arith, omega arith, ranged-none _ _ _)
+
+pub loop-l-preserved : goal.loop-l-preserved
+loop-l-preserved c = let i = c.loop-l in
+    let long : length c.args.row ≡ 64 = search (rules, c.well_formed.1.1.1.1.0) in
+    (omega arith, omega arith, ranged-more i.invariant.2 i.invariant.0 (omega arith) (λ t f s j v. rw (c.raw_in-raw.ensures t f s j v.reads v.own v.source)))
+
+pub returns : goal.returns
+returns c = λ t f s j v l.
+    let a = c.args in
+    let q : c.loop-l.l ≡ a.span.end = omega arith in
+    rw (sym q) (ranged-cond c.loop-l.invariant.2 (λ (i : ℕ) (y : Float). plus y (times (raw_in t f s j i a.route) a.gain)) (λ i y z e. e t f s j v) l)

@@ -1,0 +1,6 @@
+-- `plan_sum::lane_value` meets its contract.
+use borrow.Author.Rules.{rules}
+use Rattle.plan_sum.proofs.lane_value.Goals as goal
+
+pub returns : goal.returns
+returns c = λ t f s j sn fr v. c.route_value.ensures t f s j v (c.snap_of-snapped.ensures t sn fr)

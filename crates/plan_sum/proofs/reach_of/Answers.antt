@@ -1,0 +1,6 @@
+-- `plan_sum::reach_of` meets its contract.
+use borrow.Author.Rules.{rules}
+use Rattle.plan_sum.proofs.reach_of.Goals as goal
+
+pub returns : goal.returns
+returns c = (c.lane_count.ensures.0, c.lane_count.ensures.1, λ t sc. record { voices = sc.voices; fresh = sc.fresh; snap = sc.snap; groups = c.groups_of-groups.ensures t (rw sc.voices) })

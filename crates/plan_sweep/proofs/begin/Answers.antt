@@ -1,0 +1,12 @@
+-- `plan_sweep::begin` meets its contract.
+use mathlib.Core.Path.{◌≡◌}
+use lib.ListN.{get_or-replicate}
+use lib.Ieee.{nan}
+use borrow.Author.Rules.{rules}
+use Rattle.plan_sweep.proofs.begin.Goals as goal
+
+pub returns-then-over : goal.returns-then-over
+returns-then-over c = λ l h. rw c.if-over.true (c.sixteen.ensures l h)
+
+pub returns : goal.returns
+returns c = let a = c.args in λ l h. rw c.if-over.false (get_or-replicate 16 l a.x nan h)

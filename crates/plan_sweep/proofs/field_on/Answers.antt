@@ -1,0 +1,13 @@
+-- `plan_sweep::field_on` meets its contract.
+use mathlib.Core.Path.{◌≡◌, refl}
+use borrow.Author.Tests.{eqb-true}
+use Rattle.lane_input.proofs.Tests.{was-true}
+use Rattle.plan_sweep.proofs.Kept.{never}
+use borrow.Author.Rules.{rules}
+use Rattle.plan_sweep.proofs.field_on.Goals as goal
+
+pub returns-then-not-sounds : goal.returns-then-not-sounds
+returns-then-not-sounds c = λ h. never h
+
+pub returns : goal.returns
+returns c = λ h. (was-true refl c.if-not-sounds.false, eqb-true _ _ h)

@@ -1,0 +1,17 @@
+-- `plan_sweep::some_rows` meets its contract. The invariant: the rows before n are put.
+use mathlib.Core.Path.{◌≡◌, sym}
+use Prim.Native.Nat.{◌-◌, ◌*◌, ◌≤◌, ◌<◌}
+use native.Mathlib.Nat.{zero-add, mul-le-mul_right}
+use native.Mathlib.Omega.{arith}
+use lib.ListN.{length}
+use Rattle.list.proofs.Rows.{row_inside}
+use Rattle.plan_sweep.specs.Sweep.{some_rows}
+use Rattle.plan_sweep.proofs.Laws.{sooner, rows_none, rows_more, rows_end}
+use borrow.Author.Rules.{rules}
+use Rattle.plan_sweep.proofs.some_rows.Given as goal
+
+abbrev pub invariant-loop-n : goal.invariant-loop-n
+invariant-loop-n l = (l.n ≤ l.len) × (length l.audio ≡ length l.initial.audio) × (l.audio ≡ some_rows l.over l.starts l.steps l.gains l.samples l.pass 0 l.frame l.n l.initial.audio)
+
+abbrev pub decreases-loop-n : goal.decreases-loop-n
+decreases-loop-n l = l.len - l.n

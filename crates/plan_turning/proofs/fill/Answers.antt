@@ -1,0 +1,17 @@
+use mathlib.Core.Path.{◌≡◌, refl}
+use native.Mathlib.Omega.{arith}
+use Prim.Native.Nat.{ℕ, ◌-◌, ◌≤◌}
+use lib.ListN.{length, length-set}
+use Rattle.model.specs.Tick.{fill_from}
+use Rattle.plan_slews.proofs.Lanes.{fill_none, fill_more, fill_end}
+use borrow.Author.Rules.{rules}
+use Rattle.plan_turning.proofs.fill.Goals as goal
+
+pub loop-l-init : goal.loop-l-init
+loop-l-init c = (search rules, search rules, fill_none _ _ _)
+
+pub loop-l-preserved : goal.loop-l-preserved
+loop-l-preserved c = let i = c.loop-l in (omega arith, simp length-set i.invariant.1, fill_more _ _ _ i.l _ _ _ i.invariant.2 refl refl)
+
+pub returns : goal.returns
+returns c = fill_end _ _ _ _ _ _ c.loop-l.invariant.2 (omega arith)

@@ -1,0 +1,29 @@
+-- `program::plan` meets its contract.
+use mathlib.Core.Path.{◌≡◌, ap}
+use native.Mathlib.Omega.{arith}
+use borrow.Author.Tests.{lt-ltb, le-ltb}
+use Prim.Native.Nat.{◌≤◌, ◌<◌, min}
+use lib.ListN.{length}
+use Rattle.config.specs.Sizes.{slots}
+use Rattle.state_filled.specs.Filled.{no_plan}
+use Rattle.program.specs.declared.PlanRead.TheVariants as W
+use Rattle.list.proofs.Elements.{get_or-inside, length-mapped}
+use Rattle.program.specs.Readers.{plan_at, plan_count}
+use Rattle.program.proofs.Replies.{plan-said}
+use borrow.Author.Rules.{rules}
+use Rattle.program.proofs.plan.Goals as goal
+
+pub returns-then-held-i : goal.returns-then-held-i
+unfolding plan_at plan_count
+returns-then-held-i c =
+    let a = c.args in
+    let past : min a.program.plans slots ≤ a.i = omega (arith, c.held.ensures, c.if-held-i.true) in
+    plan-said a.program a.i _ (rw (le-ltb _ _ past))
+
+pub returns : goal.returns
+unfolding plan_at plan_count
+returns c =
+    let a = c.args in
+    let inside : a.i < min a.program.plans slots = omega (arith, c.held.ensures, c.if-held-i.false) in
+    let long : length a.program.plan ≡ slots = search (rules, length-mapped) in
+    plan-said a.program a.i _ (rw (lt-ltb _ _ inside) (ap W.Plan (get_or-inside a.program.plan a.i _ no_plan (omega arith))))

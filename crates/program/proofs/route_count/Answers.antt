@@ -1,0 +1,8 @@
+-- `program::route_count` meets its contract.
+use Rattle.program.specs.Readers.{route_count}
+use borrow.Author.Rules.{rules}
+use Rattle.program.proofs.route_count.Goals as goal
+
+pub returns : goal.returns
+unfolding route_count
+returns c = c.held.ensures

@@ -1,0 +1,29 @@
+-- `program::skipped` meets its contract.
+use mathlib.Core.Path.{◌≡◌, ap}
+use native.Mathlib.Omega.{arith}
+use borrow.Author.Tests.{lt-ltb, le-ltb}
+use Prim.Native.Nat.{◌≤◌, ◌<◌, min}
+use lib.ListN.{length}
+use Rattle.config.specs.Sizes.{slots}
+use Rattle.state_filled.specs.Filled.{no_skip}
+use Rattle.program.specs.declared.SkippedRead.TheVariants as W
+use Rattle.list.proofs.Elements.{get_or-inside, length-mapped}
+use Rattle.program.specs.Readers.{skipped_at, skip_count}
+use Rattle.program.proofs.Replies.{skipped-said}
+use borrow.Author.Rules.{rules}
+use Rattle.program.proofs.skipped.Goals as goal
+
+pub returns-then-held-i : goal.returns-then-held-i
+unfolding skipped_at skip_count
+returns-then-held-i c =
+    let a = c.args in
+    let past : min a.program.skips slots ≤ a.i = omega (arith, c.held.ensures, c.if-held-i.true) in
+    skipped-said a.program a.i _ (rw (le-ltb _ _ past))
+
+pub returns : goal.returns
+unfolding skipped_at skip_count
+returns c =
+    let a = c.args in
+    let inside : a.i < min a.program.skips slots = omega (arith, c.held.ensures, c.if-held-i.false) in
+    let long : length a.program.skipped ≡ slots = search (rules, length-mapped) in
+    skipped-said a.program a.i _ (rw (lt-ltb _ _ inside) (ap W.Skipped (get_or-inside a.program.skipped a.i _ no_skip (omega arith))))

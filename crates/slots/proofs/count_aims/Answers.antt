@@ -1,0 +1,24 @@
+use mathlib.Core.Path.{◌≡◌}
+use Prim.Native.Nat.{◌+◌, ◌-◌, ◌≤◌}
+use native.Mathlib.Omega.{arith}
+use borrow.Author.Rules.{rules}
+use lib.ListN.{length, drop}
+use Rattle.config.specs.Sizes.{slots}
+use Rattle.slots.specs.Slots.{count_aims}
+use Rattle.slots.proofs.Laws.{count-from, count_past}
+use Rattle.slots.proofs.count_aims.Goals as goal
+
+pub loop-i-init : goal.loop-i-init
+loop-i-init c = (search rules, search rules, search rules, omega arith)
+
+pub loop-i-preserved : goal.loop-i-preserved
+loop-i-preserved c =
+    let a = c.args in
+    let l = c.loop-i in
+    let e = count-from a.target a.slot l.i _ _ (omega arith) c.aim_count-one.ensures.0 in
+    (search rules, l.invariant.1, omega (arith, c.aim_count-one.ensures.1), omega (arith, e, l.invariant.3))
+
+pub returns : goal.returns
+returns c =
+    let a = c.args in
+    omega (arith, c.loop-i.invariant.3, count_past a.target a.slot c.loop-i.i (omega arith))

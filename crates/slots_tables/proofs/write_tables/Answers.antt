@@ -1,0 +1,9 @@
+-- `slots_tables::write_tables` meets its contract.
+use Rattle.list.specs.Part.{part}
+use borrow.Author.Rules.{rules}
+use Rattle.slots_tables.specs.Tables.{with_tables}
+use Rattle.slots_tables.proofs.write_tables.Goals as goal
+
+pub returns : goal.returns
+unfolding with_tables part
+returns c = c.copy_part.ensures

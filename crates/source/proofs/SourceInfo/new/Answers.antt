@@ -1,0 +1,6 @@
+-- `source::SourceInfo::new` meets its contract. Assumes nothing.
+use borrow.Author.Rules.{rules}
+use Rattle.source.proofs.SourceInfo.new.Goals as goal
+
+pub returns : goal.returns
+returns c = rw (c.usual_scope-scope.ensures, c.usual_range-range.ensures)

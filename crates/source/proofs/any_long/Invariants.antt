@@ -1,0 +1,16 @@
+-- `source::any_long` meets its contract. The loop's invariant: a length is long if one from i on is. Assumes nothing.
+use mathlib.Core.Path.{◌≡◌, refl, sym, ◌∙◌}
+use Prim.Native.Nat.{◌-◌, ◌≤◌}
+use native.Mathlib.Omega.{arith}
+use lib.ListN.{length, drop}
+use borrow.Author.Tests.{lt-ltb, le-ltb}
+use Rattle.source.specs.Standard.{any_long}
+use Rattle.source.proofs.Audio.{long-next, long-past}
+use borrow.Author.Rules.{rules}
+use Rattle.source.proofs.any_long.Given as goal
+
+abbrev pub invariant-loop-i : goal.invariant-loop-i
+invariant-loop-i l = (l.i ≤ length l.lengths) × (any_long l.lengths ≡ any_long (drop l.i l.lengths))
+
+abbrev pub decreases-loop-i : goal.decreases-loop-i
+decreases-loop-i l = length l.lengths - l.i

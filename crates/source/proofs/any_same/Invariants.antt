@@ -1,0 +1,21 @@
+-- `source::any_same` meets its contract. The loop's invariant: one of the keys from i on, which start at `at`, is left to be the key. Assumes nothing.
+use mathlib.Core.Path.{◌≡◌, refl, sym, ◌∙◌}
+use Prim.Native.Nat.{◌+◌, ◌-◌, ◌≤◌, ◌<◌}
+use native.Mathlib.Omega.{arith}
+use mathlib.Core.Bool.{true, false}
+use lib.ListN.{length, get_or, drop}
+use Rattle.list.specs.Part.{part}
+use Rattle.source_key.specs.Bytes.{same_bytes}
+use Rattle.source.specs.Standard.{audio_keys, any_same}
+use Rattle.source.proofs.Audio.{same-hit, same-miss, same_none, same_end}
+use borrow.Author.Rules.{rules}
+use Rattle.source.proofs.any_same.Given as goal
+
+abbrev pub invariant-loop-i : goal.invariant-loop-i
+invariant-loop-i l =
+    (l.at ≤ length l.bytes)
+    × (l.i ≤ length l.lengths)
+    × (any_same l.key (audio_keys (drop l.from l.bytes) (drop l.first l.lengths)) ≡ any_same l.key (audio_keys (drop l.at l.bytes) (drop l.i l.lengths)))
+
+abbrev pub decreases-loop-i : goal.decreases-loop-i
+decreases-loop-i l = length l.lengths - l.i

@@ -1,0 +1,14 @@
+-- `source::is_sequence` meets its contract. Assumes nothing.
+use mathlib.Core.Path.{sym, ◌∙◌}
+use Rattle.source.proofs.Sequence.{sequence-value, sequence-none, sequence-index}
+use borrow.Author.Rules.{rules}
+use Rattle.source.proofs.is_sequence.Goals as goal
+
+pub returns-then-is_numbered : goal.returns-then-is_numbered
+returns-then-is_numbered c = sym (sequence-value _ _ (sym c.is_numbered.ensures ∙ c.if-is_numbered.true))
+
+pub returns-then-n-eq0 : goal.returns-then-n-eq0
+returns-then-n-eq0 c = sym (sequence-none _ _ (sym c.is_numbered.ensures ∙ c.if-is_numbered.false) c.if-n-eq0.true)
+
+pub returns : goal.returns
+returns c = c.same_bytes.ensures ∙ sym (sequence-index _ _ (sym c.is_numbered.ensures ∙ c.if-is_numbered.false) c.if-n-eq0.false)

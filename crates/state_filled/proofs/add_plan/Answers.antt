@@ -1,0 +1,13 @@
+-- `state_filled::add_plan` meets its contract.
+use borrow.Author.Rules.{rules}
+use borrow.Author.Tests.{lt-ltb, le-ltb}
+use Rattle.state_filled.specs.Filled.{with_plan}
+use Rattle.state_filled.proofs.add_plan.Goals as goal
+
+pub returns-then-n-ge-SLOTS : goal.returns-then-n-ge-SLOTS
+unfolding with_plan
+returns-then-n-ge-SLOTS c = simp (le-ltb _ _ c.if-n-ge-SLOTS.true)
+
+pub returns : goal.returns
+unfolding with_plan
+returns c = simp (lt-ltb _ _ c.if-n-ge-SLOTS.false)

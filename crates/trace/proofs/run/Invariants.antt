@@ -1,0 +1,11 @@
+-- `trace::run` is safe and ends. Assumes nothing.
+use borrow.Author.Rules.{rules}
+use mathlib.Core.Path.{◌≡◌}
+use lib.ListN.{length}
+use Rattle.trace.proofs.run.Given as goal
+
+abbrev pub invariant-loop-left : goal.invariant-loop-left
+invariant-loop-left l = (length l.input ≡ length l.initial.input) × (length l.out ≡ length l.initial.out) × (length l.book ≡ length l.initial.book) × (length l.desk ≡ length l.initial.desk) × (length l.values ≡ length l.initial.values) × (length l.audio ≡ length l.initial.audio) × (length l.pool ≡ length l.initial.pool) × (length l.shelf ≡ 9)
+
+abbrev pub decreases-loop-left : goal.decreases-loop-left
+decreases-loop-left l = l.left

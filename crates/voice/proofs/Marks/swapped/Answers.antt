@@ -1,0 +1,8 @@
+-- `Marks::swapped` meets its contract.
+use Rattle.voice.specs.Marks.{marks_swapped}
+use borrow.Author.Rules.{rules}
+use Rattle.voice.proofs.Marks.swapped.Goals as goal
+
+pub returns : goal.returns
+unfolding marks_swapped
+returns c = cc (c.or-2.ensures, c.either-2.ensures, c.or.ensures, c.either.ensures, c.any-some.ensures)

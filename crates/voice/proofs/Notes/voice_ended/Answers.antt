@@ -1,0 +1,13 @@
+-- `Notes::voice_ended` meets its contract.
+use borrow.Author.Tests.{lt-ltb, le-ltb}
+use Rattle.voice.specs.Notes.{ended_note}
+use borrow.Author.Rules.{rules}
+use Rattle.voice.proofs.Notes.voice_ended.Goals as goal
+
+pub returns-then-voice-ge-VOICES : goal.returns-then-voice-ge-VOICES
+unfolding ended_note
+returns-then-voice-ge-VOICES c = simp (le-ltb _ _ c.if-voice-ge-VOICES.true)
+
+pub returns : goal.returns
+unfolding ended_note
+returns c = simp (lt-ltb _ _ c.if-voice-ge-VOICES.false, c.stopped-next.ensures)

@@ -1,0 +1,8 @@
+-- `Voices::new` meets its contract.
+use Rattle.voice.specs.Voices.{no_voices}
+use borrow.Author.Rules.{rules}
+use Rattle.voice.proofs.Voices.new.Goals as goal
+
+pub returns : goal.returns
+unfolding no_voices
+returns c = rw c.first_ranks.ensures

@@ -1,0 +1,16 @@
+-- `voice::any` meets its contract. The invariant: whether any from v on is on says it of all.
+use mathlib.Core.Path.{◌≡◌, refl, sym, ◌∙◌}
+use Prim.Native.Nat.{◌≤◌, ◌-◌}
+use lib.ListN.{length, drop}
+use native.Mathlib.Omega.{arith}
+use Rattle.config.specs.Sizes.{most_voices}
+use Rattle.voice.proofs.Counted.{any_here, any_next, any-end}
+use Rattle.voice.specs.Marks.{any_of}
+use borrow.Author.Rules.{rules}
+use Rattle.voice.proofs.any.Given as goal
+
+abbrev pub invariant-loop-v : goal.invariant-loop-v
+invariant-loop-v l = (l.v ≤ most_voices) × (any_of l.marks ≡ any_of (drop l.v l.marks))
+
+abbrev pub decreases-loop-v : goal.decreases-loop-v
+decreases-loop-v l = most_voices - l.v

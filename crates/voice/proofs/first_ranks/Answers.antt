@@ -1,0 +1,20 @@
+use mathlib.Core.Path.{refl}
+use Prim.Native.Nat.{ℕ, ◌≤◌, ◌-◌}
+use native.Mathlib.Omega.{arith}
+use Rattle.list.proofs.Filled.{Filled, filled_none, filled_more, filled-all}
+use Rattle.list.specs.Fill.{fill}
+use Rattle.config.specs.Sizes.{most_voices}
+use Rattle.voice.proofs.first_ranks.Goals as goal
+
+pub loop-k-init : goal.loop-k-init
+loop-k-init c = (omega arith, filled_none _ _)
+
+pub bounds-out-k : goal.bounds-out-k
+bounds-out-k c = omega (arith, c.loop-k.invariant.1.as_long)
+
+pub loop-k-preserved : goal.loop-k-preserved
+loop-k-preserved c = (omega arith, filled_more c.loop-k.invariant.1 refl)
+
+pub returns : goal.returns
+unfolding fill
+returns c = filled-all {n = most_voices} c.loop-k.invariant.1 (omega arith)

@@ -1,0 +1,6 @@
+-- `voice::latest_with` meets its contract.
+use borrow.Author.Rules.{rules}
+use Rattle.voice.proofs.latest_with.Goals as goal
+
+pub returns-then-on : goal.returns-then-on
+returns-then-on c = rw c.if-on.true c.later.ensures

@@ -1,0 +1,19 @@
+-- `voice::moved_glides` meets its contract. The invariant: the glides below v are moved.
+use mathlib.Core.Path.{◌∙◌}
+use Prim.Native.Nat.{ℕ, ◌≤◌, ◌-◌}
+use lib.ListN.{get_or}
+use native.Mathlib.Omega.{arith}
+use Rattle.list.proofs.Filled.{Filled, filled_none, filled-read, filled_more, filled-all}
+use lib.Ieee.{nan}
+use Rattle.config.specs.Sizes.{most_voices}
+use Rattle.voice.proofs.Elements.{fill-second}
+use Rattle.list.proofs.Elements.{length-mapped}
+use Rattle.voice.specs.Notes.{unread, moved_glide}
+use borrow.Author.Rules.{rules}
+use Rattle.voice.proofs.moved_glides.Given as goal
+
+abbrev pub invariant-loop-v : goal.invariant-loop-v
+invariant-loop-v l = (l.v ≤ most_voices) × Filled l.initial.out (λ (i : ℕ). moved_glide l.frames (get_or l.value i nan) (get_or l.initial.out i unread)) l.v l.out
+
+abbrev pub decreases-loop-v : goal.decreases-loop-v
+decreases-loop-v l = most_voices - l.v

@@ -1,0 +1,13 @@
+-- `voice::set_lane` meets its contract.
+use mathlib.Core.Path.{sym}
+use Rattle.voice.specs.Notes.{set_lane}
+use borrow.Author.Rules.{rules}
+use Rattle.voice.proofs.set_lane.Goals as goal
+
+pub returns-then-glides_to : goal.returns-then-glides_to
+unfolding set_lane
+returns-then-glides_to c = simp (sym c.glides_to.ensures, c.if-glides_to.true)
+
+pub returns : goal.returns
+unfolding set_lane
+returns c = simp (sym c.glides_to.ensures, c.if-glides_to.false)
