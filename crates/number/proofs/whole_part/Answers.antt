@@ -37,7 +37,7 @@ most (fin false m e) h k =
 
 pub truncating_f32_to_u64-requires : goal.truncating_f32_to_u64-requires
 unfolding of_bits
-truncating_f32_to_u64-requires c = (above _ c.if-x.true, yes-T c.if-x-2.true)
+truncating_f32_to_u64-requires c = record { lower_bound = above _ c.if-x.true; upper_bound = yes-T c.if-x-2.true }
 
 pub returns-then-x-2 : goal.returns-then-x-2
 returns-then-x-2 c = c.truncating_f32_to_u64.ensures
