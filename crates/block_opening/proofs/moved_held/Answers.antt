@@ -15,7 +15,7 @@ unfolding gliding
 returns-then-not-is_gliding c =
     let a = c.args in
     let long : length a.old.glide ≡ 64 = search (rules, length-mapped) in
-    sym (moved-still a.mark (passes a.note) a.stride a.sources a.old.glide a.new.value a.held.now a.n (omega (arith, c.requires)) (sym c.is_gliding.ensures ∙ not-true _ c.if-not-is_gliding.true))
+    sym (moved-still a.mark (passes a.note) a.stride a.sources a.old.glide a.new.value a.held.now a.n (omega (arith, c.requires)) (sym c.is_gliding.ensures ∙ c.if-not-is_gliding.true))
 
 pub loop-v-init : goal.loop-v-init
 loop-v-init c =

@@ -5,7 +5,7 @@ use borrow.Author.Rules.{rules}
 use Rattle.compile_feeds.proofs.held_global.Goals as goal
 
 pub returns-then-not-is_held : goal.returns-then-not-is_held
-returns-then-not-is_held c = rw (sym c.is_held.ensures ∙ not-true _ c.if-not-is_held.true)
+returns-then-not-is_held c = rw (sym c.is_held.ensures ∙ c.if-not-is_held.true)
 
 pub returns : goal.returns
-returns c = rw (c.is_voice.ensures, sym c.is_held.ensures ∙ not-false _ c.if-not-is_held.false)
+returns c = rw (c.is_voice.ensures, sym c.is_held.ensures ∙ c.if-not-is_held.false)

@@ -11,13 +11,13 @@ use Rattle.curve_table.proofs.numbers_allowed.Goals as goal
 pub returns-then-not-is_allowed : goal.returns-then-not-is_allowed
 returns-then-not-is_allowed c =
     let t = c.args.table.now in
-    let here = sym c.is_allowed.ensures ∙ not-true _ c.if-not-is_allowed.true in
+    let here = sym c.is_allowed.ensures ∙ c.if-not-is_allowed.true in
     sym (c.loop-i.invariant.1 ∙ allowed-from t c.loop-i.i c.loop-i-test.true ∙ rw here)
 
 pub loop-i-preserved : goal.loop-i-preserved
 loop-i-preserved c =
     let t = c.args.table.now in
-    let here = sym c.is_allowed.ensures ∙ not-false _ c.if-not-is_allowed.false in
+    let here = sym c.is_allowed.ensures ∙ c.if-not-is_allowed.false in
     (search rules, c.loop-i.invariant.1 ∙ allowed-from t c.loop-i.i c.loop-i-test.true ∙ rw here)
 
 pub returns : goal.returns

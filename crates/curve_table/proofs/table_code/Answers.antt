@@ -8,14 +8,14 @@ use Rattle.curve_table.proofs.table_code.Goals as goal
 
 pub returns-then-not-numbers_allowed : goal.returns-then-not-numbers_allowed
 unfolding table_code judged
-returns-then-not-numbers_allowed c = simp (sym c.numbers_allowed.ensures ∙ not-true _ c.if-not-numbers_allowed.true)
+returns-then-not-numbers_allowed c = simp (sym c.numbers_allowed.ensures ∙ c.if-not-numbers_allowed.true)
 
 pub returns-then-table-ne-POINTS : goal.returns-then-table-ne-POINTS
 unfolding table_code judged
 returns-then-table-ne-POINTS c =
-    simp (sym c.numbers_allowed.ensures ∙ not-false _ c.if-not-numbers_allowed.false, ne_eqb _ _ c.if-table-ne-POINTS.true)
+    simp (sym c.numbers_allowed.ensures ∙ c.if-not-numbers_allowed.false, ne_eqb _ _ c.if-table-ne-POINTS.true)
 
 pub returns : goal.returns
 unfolding table_code judged
 returns c =
-    simp (sym c.numbers_allowed.ensures ∙ not-false _ c.if-not-numbers_allowed.false, eq-eqb _ _ c.if-table-ne-POINTS.false)
+    simp (sym c.numbers_allowed.ensures ∙ c.if-not-numbers_allowed.false, eq-eqb _ _ c.if-table-ne-POINTS.false)

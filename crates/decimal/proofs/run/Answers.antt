@@ -15,13 +15,13 @@ loop-i-init c = (search rules, sym (zero-add _))
 pub returns-then-not-is_digit : goal.returns-then-not-is_digit
 returns-then-not-is_digit c =
     let s = c.args.s.now in
-    let e = run-other s c.loop-i.i c.loop-i-test.true (sym c.is_digit.ensures ∙ not-true _ c.if-not-is_digit.true) in
+    let e = run-other s c.loop-i.i c.loop-i-test.true (sym c.is_digit.ensures ∙ c.if-not-is_digit.true) in
     (omega (arith, e, c.loop-i.invariant.1), search rules)
 
 pub loop-i-preserved : goal.loop-i-preserved
 loop-i-preserved c =
     let s = c.args.s.now in
-    let e = run-digit s c.loop-i.i c.loop-i-test.true (sym c.is_digit.ensures ∙ not-false _ c.if-not-is_digit.false) in
+    let e = run-digit s c.loop-i.i c.loop-i-test.true (sym c.is_digit.ensures ∙ c.if-not-is_digit.false) in
     (search rules, omega (arith, e, c.loop-i.invariant.1))
 
 pub returns : goal.returns

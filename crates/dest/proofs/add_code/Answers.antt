@@ -14,24 +14,24 @@ returns-then-is_found c =
 pub returns-then-not-min-max : goal.returns-then-not-min-max
 returns-then-not-min-max c =
     let a = ap is_found (sym c.find.ensures.0) ∙ sym c.is_found.ensures ∙ c.if-is_found.false in
-    sym (code-10 _ _ a (bounds-bad _ _ (not-true _ c.if-not-min-max.true)))
+    sym (code-10 _ _ a (bounds-bad _ _ (c.if-not-min-max.true)))
 
 pub returns-then-feeds_no_slot : goal.returns-then-feeds_no_slot
 returns-then-feeds_no_slot c =
     let a = ap is_found (sym c.find.ensures.0) ∙ sym c.is_found.ensures ∙ c.if-is_found.false in
-    let b = bounds-good _ _ (not-false _ c.if-not-min-max.false) in
+    let b = bounds-good _ _ (c.if-not-min-max.false) in
     sym (code-11 _ _ a b (sym c.feeds_no_slot.ensures ∙ c.if-feeds_no_slot.true))
 
 pub returns-then-len-ge-DESTINATIONS : goal.returns-then-len-ge-DESTINATIONS
 returns-then-len-ge-DESTINATIONS c =
     let a = ap is_found (sym c.find.ensures.0) ∙ sym c.is_found.ensures ∙ c.if-is_found.false in
-    let b = bounds-good _ _ (not-false _ c.if-not-min-max.false) in
+    let b = bounds-good _ _ (c.if-not-min-max.false) in
     let e = sym c.feeds_no_slot.ensures ∙ c.if-feeds_no_slot.false in
     sym (code-12 _ _ a b e (omega arith))
 
 pub returns : goal.returns
 returns c =
     let a = ap is_found (sym c.find.ensures.0) ∙ sym c.is_found.ensures ∙ c.if-is_found.false in
-    let b = bounds-good _ _ (not-false _ c.if-not-min-max.false) in
+    let b = bounds-good _ _ (c.if-not-min-max.false) in
     let e = sym c.feeds_no_slot.ensures ∙ c.if-feeds_no_slot.false in
     sym (code-0 _ _ a b e (omega arith))

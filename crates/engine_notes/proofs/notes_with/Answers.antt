@@ -6,8 +6,8 @@ use Rattle.engine_notes.proofs.notes_with.Goals as goal
 
 pub returns-then-not-takes : goal.returns-then-not-takes
 unfolding notes_with
-returns-then-not-takes c = simp (not-true c.args.takes c.if-not-takes.true)
+returns-then-not-takes c = simp (c.if-not-takes.true)
 
 pub returns : goal.returns
 unfolding notes_with
-returns c = simp (not-false c.args.takes c.if-not-takes.false) c.set.ensures
+returns c = simp (c.if-not-takes.false) c.set.ensures

@@ -5,10 +5,10 @@ use Rattle.engine_notes.proofs.Steps.{set_past}
 use Rattle.engine_notes.proofs.put.Goals as goal
 
 pub returns-then-not-on : goal.returns-then-not-on
-returns-then-not-on c = simp (not-true c.args.on c.if-not-on.true)
+returns-then-not-on c = simp (c.if-not-on.true)
 
 pub returns-then-held-i : goal.returns-then-held-i
-returns-then-held-i c = simp (not-false c.args.on c.if-not-on.false, set_past c.args.held.now c.args.i c.args.x c.if-held-i.true)
+returns-then-held-i c = simp (c.if-not-on.false, set_past c.args.held.now c.args.i c.args.x c.if-held-i.true)
 
 pub returns : goal.returns
-returns c = simp (not-false c.args.on c.if-not-on.false)
+returns c = simp (c.if-not-on.false)

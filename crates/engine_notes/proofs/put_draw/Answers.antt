@@ -4,7 +4,7 @@ use borrow.Author.Rules.{rules}
 use Rattle.engine_notes.proofs.put_draw.Goals as goal
 
 pub returns-then-not-on : goal.returns-then-not-on
-returns-then-not-on c = simp (not-true c.args.on c.if-not-on.true)
+returns-then-not-on c = simp (c.if-not-on.true)
 
 pub returns : goal.returns
-returns c = simp (not-false c.args.on c.if-not-on.false, c.put.ensures, c.draw.ensures)
+returns c = simp (c.if-not-on.false, c.put.ensures, c.draw.ensures)

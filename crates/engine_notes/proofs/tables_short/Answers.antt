@@ -4,7 +4,7 @@ use Rattle.engine_notes.proofs.Steps.{none-short}
 use Rattle.engine_notes.proofs.tables_short.Goals as goal
 
 pub returns-then-not-tabled : goal.returns-then-not-tabled
-returns-then-not-tabled c = simp (not-true c.args.tabled c.if-not-tabled.true, none-short)
+returns-then-not-tabled c = simp (c.if-not-tabled.true, none-short)
 
 pub returns : goal.returns
-returns c = simp (not-false c.args.tabled c.if-not-tabled.false)
+returns c = simp (c.if-not-tabled.false)

@@ -9,12 +9,12 @@ use Rattle.engine_notes.proofs.write_value.Goals as goal
 
 pub returns-then-not-takes : goal.returns-then-not-takes
 unfolding value_in
-returns-then-not-takes c = simp (not-true c.args.takes c.if-not-takes.true)
+returns-then-not-takes c = simp (c.if-not-takes.true)
 
 pub returns-then-glides_to : goal.returns-then-glides_to
 unfolding value_in
-returns-then-glides_to c = simp (not-false c.args.takes c.if-not-takes.false, sym (c.glides_to.ensures ∙ ap (λ (x : Float). glides_to x c.args.target c.args.time) c.value_of.ensures) ∙ c.if-glides_to.true)
+returns-then-glides_to c = simp (c.if-not-takes.false, sym (c.glides_to.ensures ∙ ap (λ (x : Float). glides_to x c.args.target c.args.time) c.value_of.ensures) ∙ c.if-glides_to.true)
 
 pub returns : goal.returns
 unfolding value_in
-returns c = simp (not-false c.args.takes c.if-not-takes.false, sym (c.glides_to.ensures ∙ ap (λ (x : Float). glides_to x c.args.target c.args.time) c.value_of.ensures) ∙ c.if-glides_to.false) c.write_kind.ensures
+returns c = simp (c.if-not-takes.false, sym (c.glides_to.ensures ∙ ap (λ (x : Float). glides_to x c.args.target c.args.time) c.value_of.ensures) ∙ c.if-glides_to.false) c.write_kind.ensures

@@ -12,12 +12,12 @@ returns-then-n-dest c = simp (reached _ _ _ c.dests_of-n.ensures c.if-n-dest.tru
 
 pub returns-then-not-is_finite : goal.returns-then-not-is_finite
 unfolding base_code
-returns-then-not-is_finite c = simp (not-reached _ _ _ c.dests_of-n.ensures c.if-n-dest.false, sym c.is_finite.ensures ∙ not-true _ c.if-not-is_finite.true)
+returns-then-not-is_finite c = simp (not-reached _ _ _ c.dests_of-n.ensures c.if-n-dest.false, sym c.is_finite.ensures ∙ c.if-not-is_finite.true)
 
 pub returns-then-bases-n : goal.returns-then-bases-n
 unfolding base_code
-returns-then-bases-n c = simp (not-reached _ _ _ c.dests_of-n.ensures c.if-n-dest.false, sym c.is_finite.ensures ∙ not-false _ c.if-not-is_finite.false, below _ _ _ c.dests_of-n.ensures c.if-bases-n.true)
+returns-then-bases-n c = simp (not-reached _ _ _ c.dests_of-n.ensures c.if-n-dest.false, sym c.is_finite.ensures ∙ c.if-not-is_finite.false, below _ _ _ c.dests_of-n.ensures c.if-bases-n.true)
 
 pub returns : goal.returns
 unfolding base_code
-returns c = simp (not-reached _ _ _ c.dests_of-n.ensures c.if-n-dest.false, sym c.is_finite.ensures ∙ not-false _ c.if-not-is_finite.false, not-below _ _ _ c.dests_of-n.ensures c.if-bases-n.false)
+returns c = simp (not-reached _ _ _ c.dests_of-n.ensures c.if-n-dest.false, sym c.is_finite.ensures ∙ c.if-not-is_finite.false, not-below _ _ _ c.dests_of-n.ensures c.if-bases-n.false)

@@ -14,12 +14,12 @@ loop-i-init c = (search rules, search rules, refl)
 pub returns-then-not-is_finite : goal.returns-then-not-is_finite
 returns-then-not-is_finite c =
     let l = c.loop-i in
-    sym (l.invariant.2 ∙ from-here _ l.i (omega arith) ∙ sym (and-false _ (sym c.is_finite.ensures ∙ not-true _ c.if-not-is_finite.true)))
+    sym (l.invariant.2 ∙ from-here _ l.i (omega arith) ∙ sym (and-false _ (sym c.is_finite.ensures ∙ c.if-not-is_finite.true)))
 
 pub loop-i-preserved : goal.loop-i-preserved
 loop-i-preserved c =
     let l = c.loop-i in
-    (search rules, l.invariant.1, l.invariant.2 ∙ from-here _ l.i (omega arith) ∙ sym (and-true (sym c.is_finite.ensures ∙ not-false _ c.if-not-is_finite.false)))
+    (search rules, l.invariant.1, l.invariant.2 ∙ from-here _ l.i (omega arith) ∙ sym (and-true (sym c.is_finite.ensures ∙ c.if-not-is_finite.false)))
 
 pub returns : goal.returns
 returns c =

@@ -11,8 +11,8 @@ returns-then-slot-ge-SLOTS c = simp (le-leb _ _ c.if-slot-ge-SLOTS.true)
 
 pub returns-then-not-is_finite : goal.returns-then-not-is_finite
 unfolding gain_code
-returns-then-not-is_finite c = simp (lt-leb _ _ c.if-slot-ge-SLOTS.false, sym c.is_finite.ensures ∙ not-true _ c.if-not-is_finite.true)
+returns-then-not-is_finite c = simp (lt-leb _ _ c.if-slot-ge-SLOTS.false, sym c.is_finite.ensures ∙ c.if-not-is_finite.true)
 
 pub returns : goal.returns
 unfolding gain_code
-returns c = simp (lt-leb _ _ c.if-slot-ge-SLOTS.false, sym c.is_finite.ensures ∙ not-false _ c.if-not-is_finite.false)
+returns c = simp (lt-leb _ _ c.if-slot-ge-SLOTS.false, sym c.is_finite.ensures ∙ c.if-not-is_finite.false)

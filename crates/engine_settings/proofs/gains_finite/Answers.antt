@@ -5,7 +5,7 @@ use borrow.Author.Rules.{rules}
 use Rattle.engine_settings.proofs.gains_finite.Goals as goal
 
 pub returns-then-not-every_finite : goal.returns-then-not-every_finite
-returns-then-not-every_finite c = simp (sym c.every_finite.ensures ∙ not-true _ c.if-not-every_finite.true)
+returns-then-not-every_finite c = simp (sym c.every_finite.ensures ∙ c.if-not-every_finite.true)
 
 pub returns : goal.returns
-returns c = c.every_finite-2.ensures ∙ simp (sym c.every_finite.ensures ∙ not-false _ c.if-not-every_finite.false)
+returns c = c.every_finite-2.ensures ∙ simp (sym c.every_finite.ensures ∙ c.if-not-every_finite.false)

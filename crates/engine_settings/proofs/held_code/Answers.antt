@@ -12,16 +12,16 @@ returns-then-n-source c = simp (reached _ _ _ c.sources_of-n.ensures c.if-n-sour
 
 pub returns-then-not-is_finite : goal.returns-then-not-is_finite
 unfolding held_code
-returns-then-not-is_finite c = simp (not-reached _ _ _ c.sources_of-n.ensures c.if-n-source.false, sym c.is_finite.ensures ∙ not-true _ c.if-not-is_finite.true)
+returns-then-not-is_finite c = simp (not-reached _ _ _ c.sources_of-n.ensures c.if-n-source.false, sym c.is_finite.ensures ∙ c.if-not-is_finite.true)
 
 pub returns-then-held-held_need : goal.returns-then-held-held_need
 unfolding held_code
-returns-then-held-held_need c = simp (not-reached _ _ _ c.sources_of-n.ensures c.if-n-source.false, sym c.is_finite.ensures ∙ not-false _ c.if-not-is_finite.false, below _ _ _ c.held_need.ensures c.if-held-held_need.true)
+returns-then-held-held_need c = simp (not-reached _ _ _ c.sources_of-n.ensures c.if-n-source.false, sym c.is_finite.ensures ∙ c.if-not-is_finite.false, below _ _ _ c.held_need.ensures c.if-held-held_need.true)
 
 pub returns-then-globals-n : goal.returns-then-globals-n
 unfolding held_code
-returns-then-globals-n c = simp (not-reached _ _ _ c.sources_of-n.ensures c.if-n-source.false, sym c.is_finite.ensures ∙ not-false _ c.if-not-is_finite.false, not-below _ _ _ c.held_need.ensures c.if-held-held_need.false, below _ _ _ c.sources_of-n.ensures c.if-globals-n.true)
+returns-then-globals-n c = simp (not-reached _ _ _ c.sources_of-n.ensures c.if-n-source.false, sym c.is_finite.ensures ∙ c.if-not-is_finite.false, not-below _ _ _ c.held_need.ensures c.if-held-held_need.false, below _ _ _ c.sources_of-n.ensures c.if-globals-n.true)
 
 pub returns : goal.returns
 unfolding held_code
-returns c = simp (not-reached _ _ _ c.sources_of-n.ensures c.if-n-source.false, sym c.is_finite.ensures ∙ not-false _ c.if-not-is_finite.false, not-below _ _ _ c.held_need.ensures c.if-held-held_need.false, not-below _ _ _ c.sources_of-n.ensures c.if-globals-n.false)
+returns c = simp (not-reached _ _ _ c.sources_of-n.ensures c.if-n-source.false, sym c.is_finite.ensures ∙ c.if-not-is_finite.false, not-below _ _ _ c.held_need.ensures c.if-held-held_need.false, not-below _ _ _ c.sources_of-n.ensures c.if-globals-n.false)

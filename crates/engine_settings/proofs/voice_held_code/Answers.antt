@@ -16,12 +16,12 @@ returns-then-sources_of-source c = simp (not-reached _ _ _ c.stride_of.ensures c
 
 pub returns-then-not-is_finite : goal.returns-then-not-is_finite
 unfolding voice_held_code
-returns-then-not-is_finite c = simp (not-reached _ _ _ c.stride_of.ensures c.if-stride_of-voice.false, not-reached _ _ _ c.sources_of.ensures c.if-sources_of-source.false, sym c.is_finite.ensures ∙ not-true _ c.if-not-is_finite.true)
+returns-then-not-is_finite c = simp (not-reached _ _ _ c.stride_of.ensures c.if-stride_of-voice.false, not-reached _ _ _ c.sources_of.ensures c.if-sources_of-source.false, sym c.is_finite.ensures ∙ c.if-not-is_finite.true)
 
 pub returns-then-held-held_need : goal.returns-then-held-held_need
 unfolding voice_held_code
-returns-then-held-held_need c = simp (not-reached _ _ _ c.stride_of.ensures c.if-stride_of-voice.false, not-reached _ _ _ c.sources_of.ensures c.if-sources_of-source.false, sym c.is_finite.ensures ∙ not-false _ c.if-not-is_finite.false, below _ _ _ c.held_need.ensures c.if-held-held_need.true)
+returns-then-held-held_need c = simp (not-reached _ _ _ c.stride_of.ensures c.if-stride_of-voice.false, not-reached _ _ _ c.sources_of.ensures c.if-sources_of-source.false, sym c.is_finite.ensures ∙ c.if-not-is_finite.false, below _ _ _ c.held_need.ensures c.if-held-held_need.true)
 
 pub returns : goal.returns
 unfolding voice_held_code
-returns c = simp (not-reached _ _ _ c.stride_of.ensures c.if-stride_of-voice.false, not-reached _ _ _ c.sources_of.ensures c.if-sources_of-source.false, sym c.is_finite.ensures ∙ not-false _ c.if-not-is_finite.false, not-below _ _ _ c.held_need.ensures c.if-held-held_need.false)
+returns c = simp (not-reached _ _ _ c.stride_of.ensures c.if-stride_of-voice.false, not-reached _ _ _ c.sources_of.ensures c.if-sources_of-source.false, sym c.is_finite.ensures ∙ c.if-not-is_finite.false, not-below _ _ _ c.held_need.ensures c.if-held-held_need.false)

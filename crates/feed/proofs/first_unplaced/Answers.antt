@@ -14,12 +14,12 @@ loop-i-init c = (omega arith, rw sub-zero)
 pub returns-then-not-placed-i : goal.returns-then-not-placed-i
 returns-then-not-placed-i c =
     let s = c.args in
-    sym (c.loop-i.invariant.1 ∙ ap (first_or 0) (unplaced-left s.placed.now s.n c.loop-i.i (omega arith) (not-true _ c.if-not-placed-i.true)))
+    sym (c.loop-i.invariant.1 ∙ ap (first_or 0) (unplaced-left s.placed.now s.n c.loop-i.i (omega arith) (c.if-not-placed-i.true)))
 
 pub loop-i-preserved : goal.loop-i-preserved
 loop-i-preserved c =
     let s = c.args in
-    (omega arith, c.loop-i.invariant.1 ∙ ap (first_or 0) (unplaced-taken s.placed.now s.n c.loop-i.i (omega arith) (not-false _ c.if-not-placed-i.false)))
+    (omega arith, c.loop-i.invariant.1 ∙ ap (first_or 0) (unplaced-taken s.placed.now s.n c.loop-i.i (omega arith) (c.if-not-placed-i.false)))
 
 pub returns : goal.returns
 returns c =

@@ -17,7 +17,7 @@ pub returns-then-a-b : goal.returns-then-a-b
 returns-then-a-b c =
     let s = c.args in
     fed-here (marked s.feeds.now) s.placed.now s.n s.b c.loop-a.a (omega arith)
-    (not-true _ c.if-not-placed-a.true) c.if-feeds-a.true c.if-a-b.true
+    (c.if-not-placed-a.true) c.if-feeds-a.true c.if-a-b.true
     ∙ sym c.loop-a.invariant.1
 
 pub loop-a-preserved : goal.loop-a-preserved
@@ -28,9 +28,9 @@ loop-a-preserved c =
     let lt : a < s.n = omega arith in (
       omega arith,
       c.loop-a.invariant.1 ∙ elim c.if-not-placed-a.branch [
-        | inl w ↦ fed-self f s.placed.now s.n s.b a lt (not-true _ w.0.taken) w.2.taken w.3.left
-        | inr (inl w) ↦ fed-not f s.placed.now s.n s.b a lt (not-true _ w.0.taken) w.2.left
-        | inr (inr w) ↦ fed-taken f s.placed.now s.n s.b a lt (not-false _ w.left)
+        | inl w ↦ fed-self f s.placed.now s.n s.b a lt (not-true _ w.0.true) w.2.true w.3.false
+        | inr (inl w) ↦ fed-not f s.placed.now s.n s.b a lt (not-true _ w.0.true) w.2.false
+        | inr (inr w) ↦ fed-taken f s.placed.now s.n s.b a lt (not-false _ w.false)
       ],
     )
 

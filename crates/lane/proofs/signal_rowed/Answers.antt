@@ -4,7 +4,7 @@ use borrow.Author.Tests.{not-true, not-false}
 use Rattle.lane.proofs.signal_rowed.Goals as goal
 
 pub returns-then-not-voice : goal.returns-then-not-voice
-returns-then-not-voice c = rw (not-true c.args.voice c.if-not-voice.true)
+returns-then-not-voice c = rw (c.if-not-voice.true)
 
 pub returns : goal.returns
-returns c = rw (not-false c.args.voice c.if-not-voice.false) c.row_whole.ensures
+returns c = rw (c.if-not-voice.false) c.row_whole.ensures

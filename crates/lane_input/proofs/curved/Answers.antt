@@ -4,7 +4,7 @@ use borrow.Author.Tests.{not-true, not-false}
 use Rattle.lane_input.proofs.curved.Goals as goal
 
 pub returns-then-not-table : goal.returns-then-not-table
-returns-then-not-table c = λ t e. rw (not-true c.args.table c.if-not-table.true)
+returns-then-not-table c = λ t e. rw (c.if-not-table.true)
 
 pub returns : goal.returns
-returns c = λ t e. rw (not-false c.args.table c.if-not-table.false, e) c.look_up.ensures
+returns c = λ t e. rw (c.if-not-table.false, e) c.look_up.ensures

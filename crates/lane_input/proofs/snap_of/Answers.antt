@@ -7,16 +7,16 @@ use Rattle.lane_input.proofs.snap_of.Goals as goal
 
 pub returns-then-not-voice : goal.returns-then-not-voice
 unfolding of_bits
-returns-then-not-voice c = λ t e d. rw (not-true c.args.voice c.if-not-voice.true)
+returns-then-not-voice c = λ t e d. rw (c.if-not-voice.true)
 
 pub returns-then-not-snap : goal.returns-then-not-snap
 unfolding of_bits
-returns-then-not-snap c = λ t e d. rw (not-false c.args.voice c.if-not-voice.false, e, not-true c.args.snap c.if-not-snap.true)
+returns-then-not-snap c = λ t e d. rw (c.if-not-voice.false, e, c.if-not-snap.true)
 
 pub returns-then-mark_at : goal.returns-then-mark_at
 unfolding of_bits
-returns-then-mark_at c = λ t e d. rw (not-false c.args.voice c.if-not-voice.false, e, not-false c.args.snap c.if-not-snap.false, d, sym c.mark_at.ensures ∙ c.if-mark_at.true)
+returns-then-mark_at c = λ t e d. rw (c.if-not-voice.false, e, c.if-not-snap.false, d, sym c.mark_at.ensures ∙ c.if-mark_at.true)
 
 pub returns : goal.returns
 unfolding of_bits
-returns c = λ t e d. rw (not-false c.args.voice c.if-not-voice.false, e, not-false c.args.snap c.if-not-snap.false, d, sym c.mark_at.ensures ∙ c.if-mark_at.false)
+returns c = λ t e d. rw (c.if-not-voice.false, e, c.if-not-snap.false, d, sym c.mark_at.ensures ∙ c.if-mark_at.false)

@@ -7,14 +7,14 @@ use Rattle.lane_input.proofs.worked.Goals as goal
 pub returns-then-not-route : goal.returns-then-not-route
 returns-then-not-route c = λ t e.
     let a = c.args in
-    global-worked t a.plan a.route a.lane (not-true a.route c.if-not-route.true)
+    global-worked t a.plan a.route a.lane (c.if-not-route.true)
 
 pub returns-then-plan : goal.returns-then-plan
 returns-then-plan c = λ t e.
     let a = c.args in
-    rw (not-false a.route c.if-not-route.false, c.if-plan.true) (c.in_group.ensures t (rw e))
+    rw (c.if-not-route.false, c.if-plan.true) (c.in_group.ensures t (rw e))
 
 pub returns : goal.returns
 returns c = λ t e.
     let a = c.args in
-    rw (not-false a.route c.if-not-route.false, c.if-plan.false, e) c.newest_group.ensures
+    rw (c.if-not-route.false, c.if-plan.false, e) c.newest_group.ensures

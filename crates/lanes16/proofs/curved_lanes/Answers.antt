@@ -7,13 +7,13 @@ use borrow.Author.Rules.{rules}
 use Rattle.lanes16.proofs.curved_lanes.Goals as goal
 
 pub returns-then-not-table : goal.returns-then-not-table
-returns-then-not-table c = λ t e l h. rw (not-true c.args.table c.if-not-table.true)
+returns-then-not-table c = λ t e l h. rw (c.if-not-table.true)
 
 pub look_lanes-requires : goal.look_lanes-requires
 look_lanes-requires c = leb-true _ _ (sym c.fits2.ensures ∙ c.if-fits.true)
 
 pub returns-then-fits : goal.returns-then-fits
-returns-then-fits c = λ t e l h. let a = c.args in rw (not-false c.args.table c.if-not-table.false, e) (look_is a.tables.now (2 * a.slot + a.position) ((2 * a.slot + a.position) * 513) _ _ _ refl (c.positions.ensures l h) (c.look_lanes.ensures l h))
+returns-then-fits c = λ t e l h. let a = c.args in rw (c.if-not-table.false, e) (look_is a.tables.now (2 * a.slot + a.position) ((2 * a.slot + a.position) * 513) _ _ _ refl (c.positions.ensures l h) (c.look_lanes.ensures l h))
 
 pub returns : goal.returns
-returns c = λ t e l h. rw (not-false c.args.table c.if-not-table.false, e) (c.table_lanes.ensures l h)
+returns c = λ t e l h. rw (c.if-not-table.false, e) (c.table_lanes.ensures l h)

@@ -15,4 +15,4 @@ pub copied-requires : goal.copied-requires
 copied-requires c = omega (arith, leb-true (c.plan_to-start.result + (c.args.lane + 16)) (length c.args.values.now) (sym c.fits2.ensures ∙ c.if-fits.true))
 
 pub returns-then-fits : goal.returns-then-fits
-returns-then-fits c = λ t f w k l h. let a = c.args in fed-told t f a.point a.values.now a.plan a.lane l c.plan_to-start.result w k (not-false a.voice c.if-not-voice.false) (omega (arith, c.requires.1)) c.plan_to-start.ensures (c.copied.ensures l h)
+returns-then-fits c = λ t f w k l h. let a = c.args in fed-told t f a.point a.values.now a.plan a.lane l c.plan_to-start.result w k (c.if-not-voice.false) (omega (arith, c.requires.1)) c.plan_to-start.ensures (c.copied.ensures l h)

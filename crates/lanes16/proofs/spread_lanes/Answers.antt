@@ -4,7 +4,7 @@ use borrow.Author.Rules.{rules}
 use Rattle.lanes16.proofs.spread_lanes.Goals as goal
 
 pub returns-then-not-bipolar : goal.returns-then-not-bipolar
-returns-then-not-bipolar c = λ l h. rw (not-true c.args.bipolar c.if-not-bipolar.true)
+returns-then-not-bipolar c = λ l h. rw (c.if-not-bipolar.true)
 
 pub returns : goal.returns
-returns c = λ l h. rw (not-false c.args.bipolar c.if-not-bipolar.false) (c.doubled_lanes.ensures l h)
+returns c = λ l h. rw (c.if-not-bipolar.false) (c.doubled_lanes.ensures l h)

@@ -13,17 +13,17 @@ pub returns-then-not-is_finite : goal.returns-then-not-is_finite
 returns-then-not-is_finite c =
     let a = c.args in
     vibrato-said a.matrix a.lfos.now a.mod-wheel a.tuning a.amount _
-    (vibrato-refused a.matrix a.lfos.now a.mod-wheel a.tuning a.amount (sym c.is_finite.ensures ∙ not-true _ c.if-not-is_finite.true))
+    (vibrato-refused a.matrix a.lfos.now a.mod-wheel a.tuning a.amount (sym c.is_finite.ensures ∙ c.if-not-is_finite.true))
 
 pub returns-then-lfos-free : goal.returns-then-lfos-free
 returns-then-lfos-free c =
     let a = c.args in
     vibrato-said a.matrix a.lfos.now a.mod-wheel a.tuning a.amount _
-    (vibrato-none a.matrix a.lfos.now a.mod-wheel a.tuning a.amount _ (sym c.is_finite.ensures ∙ not-false _ c.if-not-is_finite.false) c.first_free-free.ensures c.if-lfos-free.true)
+    (vibrato-none a.matrix a.lfos.now a.mod-wheel a.tuning a.amount _ (sym c.is_finite.ensures ∙ c.if-not-is_finite.false) c.first_free-free.ensures c.if-lfos-free.true)
 
 pub returns : goal.returns
 returns c =
     let a = c.args in
     let inside : c.first_free-free.result < length a.lfos.now = omega arith in
     vibrato-said a.matrix a.lfos.now a.mod-wheel a.tuning a.amount _
-    (vibrato-made a.matrix a.lfos.now a.mod-wheel a.tuning a.amount _ _ (sym c.is_finite.ensures ∙ not-false _ c.if-not-is_finite.false) c.first_free-free.ensures inside c.vibrato.ensures)
+    (vibrato-made a.matrix a.lfos.now a.mod-wheel a.tuning a.amount _ _ (sym c.is_finite.ensures ∙ c.if-not-is_finite.false) c.first_free-free.ensures inside c.vibrato.ensures)

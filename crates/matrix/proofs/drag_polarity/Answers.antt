@@ -6,7 +6,7 @@ use borrow.Author.Rules.{rules}
 use Rattle.matrix.proofs.drag_polarity.Goals as goal
 
 pub returns-then-not-is_finite : goal.returns-then-not-is_finite
-returns-then-not-is_finite c = polarity-refused _ _ (sym c.is_finite.ensures ∙ not-true _ c.if-not-is_finite.true)
+returns-then-not-is_finite c = polarity-refused _ _ (sym c.is_finite.ensures ∙ c.if-not-is_finite.true)
 
 pub returns : goal.returns
-returns c = polarity-made _ _ _ (sym c.is_finite.ensures ∙ not-false _ c.if-not-is_finite.false) c.polarity_at-polarity.ensures
+returns c = polarity-made _ _ _ (sym c.is_finite.ensures ∙ c.if-not-is_finite.false) c.polarity_at-polarity.ensures

@@ -8,8 +8,8 @@ use Rattle.matrix_editing.proofs.both_finite.Goals as goal
 
 pub returns-then-not-is_finite : goal.returns-then-not-is_finite
 unfolding both_finite
-returns-then-not-is_finite c = and-false _ (sym c.is_finite.ensures ∙ not-true _ c.if-not-is_finite.true)
+returns-then-not-is_finite c = and-false _ (sym c.is_finite.ensures ∙ c.if-not-is_finite.true)
 
 pub returns : goal.returns
 unfolding both_finite
-returns c = c.is_finite-2.ensures ∙ and-true (sym c.is_finite.ensures ∙ not-false _ c.if-not-is_finite.false)
+returns c = c.is_finite-2.ensures ∙ and-true (sym c.is_finite.ensures ∙ c.if-not-is_finite.false)

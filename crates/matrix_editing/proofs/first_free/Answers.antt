@@ -15,14 +15,14 @@ pub returns-then-not-in_use : goal.returns-then-not-in_use
 returns-then-not-in_use c =
     let l = c.loop-i in
     let a = c.args in
-    let e = free-here a.lfos.now a.slot l.i (omega arith) (sym c.in_use.ensures ∙ not-true _ c.if-not-in_use.true) in
+    let e = free-here a.lfos.now a.slot l.i (omega arith) (sym c.in_use.ensures ∙ c.if-not-in_use.true) in
     omega (arith, l.invariant.1, e)
 
 pub loop-i-preserved : goal.loop-i-preserved
 loop-i-preserved c =
     let l = c.loop-i in
     let a = c.args in
-    let e = free-later a.lfos.now a.slot l.i (omega arith) (sym c.in_use.ensures ∙ not-false _ c.if-not-in_use.false) in
+    let e = free-later a.lfos.now a.slot l.i (omega arith) (sym c.in_use.ensures ∙ c.if-not-in_use.false) in
     (search rules, omega (arith, l.invariant.1, e))
 
 pub returns : goal.returns

@@ -10,7 +10,7 @@ use Rattle.plan_mix.proofs.mix_group.Goals as goal
 
 pub returns-then-not-on : goal.returns-then-not-on
 returns-then-not-on c = let a = c.args in
-    let off = not-true a.on c.if-not-on.true in
+    let off = c.if-not-on.true in
     let k = c.keep_group.ensures in (
       k.0,
       record { long = refl; left = λ l h. refl; rest = λ l h. refl },
@@ -25,7 +25,7 @@ add_to-requires c = let p = c.requires in omega (arith, p.2, p.0.sized.stride, p
 
 pub returns : goal.returns
 returns c = let a = c.args in
-    let on = not-false a.on c.if-not-on.false in
+    let on = c.if-not-on.false in
     let pg = c.put_group.ensures in
     let add = c.add_to.ensures in (
       pg.0,

@@ -5,7 +5,7 @@ use borrow.Author.Tests.{not-true, not-false}
 use Rattle.plan_slews.proofs.still.Goals as goal
 
 pub returns-then-not-input_free : goal.returns-then-not-input_free
-returns-then-not-input_free c = rw (sym c.input_free.ensures ∙ not-true c.input_free.result c.if-not-input_free.true)
+returns-then-not-input_free c = rw (sym c.input_free.ensures ∙ c.if-not-input_free.true)
 
 pub returns : goal.returns
-returns c = c.aux_free.ensures ∙ rw (sym c.input_free.ensures ∙ not-false c.input_free.result c.if-not-input_free.false)
+returns c = c.aux_free.ensures ∙ rw (sym c.input_free.ensures ∙ c.if-not-input_free.false)

@@ -4,7 +4,7 @@ use borrow.Author.Tests.{not-true, not-false}
 use Rattle.plan_sum.proofs.add_own.Goals as goal
 
 pub returns-then-not-on : goal.returns-then-not-on
-returns-then-not-on c = λ t f s j sn fr v. rw (not-true c.args.on c.if-not-on.true)
+returns-then-not-on c = λ t f s j sn fr v. rw (c.if-not-on.true)
 
 pub returns : goal.returns
-returns c = λ t f s j sn fr v. rw (not-false c.args.on c.if-not-on.false, ← c.lane_value.ensures t f s j sn fr v)
+returns c = λ t f s j sn fr v. rw (c.if-not-on.false, ← c.lane_value.ensures t f s j sn fr v)

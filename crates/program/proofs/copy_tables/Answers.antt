@@ -7,17 +7,17 @@ use Rattle.program.proofs.copy_tables.Goals as goal
 
 pub returns-then-not-named : goal.returns-then-not-named
 unfolding copied
-returns-then-not-named c = simp (not-true c.args.named c.if-not-named.true)
+returns-then-not-named c = simp (c.if-not-named.true)
 
 pub returns-then-tables-lt-TABLES : goal.returns-then-tables-lt-TABLES
 unfolding copied
-returns-then-tables-lt-TABLES c = simp (not-false c.args.named c.if-not-named.false, lt-ltb _ _ c.if-tables-lt-TABLES.true)
+returns-then-tables-lt-TABLES c = simp (c.if-not-named.false, lt-ltb _ _ c.if-tables-lt-TABLES.true)
 
 pub returns-then-from-lt-TABLES : goal.returns-then-from-lt-TABLES
 unfolding copied
-returns-then-from-lt-TABLES c = simp (not-false c.args.named c.if-not-named.false, le-ltb _ _ c.if-tables-lt-TABLES.false, lt-ltb _ _ c.if-from-lt-TABLES.true)
+returns-then-from-lt-TABLES c = simp (c.if-not-named.false, le-ltb _ _ c.if-tables-lt-TABLES.false, lt-ltb _ _ c.if-from-lt-TABLES.true)
 
 pub returns : goal.returns
 unfolding copied
 returns c =
-    c.write_tables.ensures ∙ simp (not-false c.args.named c.if-not-named.false, le-ltb _ _ c.if-tables-lt-TABLES.false, le-ltb _ _ c.if-from-lt-TABLES.false)
+    c.write_tables.ensures ∙ simp (c.if-not-named.false, le-ltb _ _ c.if-tables-lt-TABLES.false, le-ltb _ _ c.if-from-lt-TABLES.false)

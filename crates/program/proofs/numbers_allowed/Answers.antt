@@ -5,7 +5,7 @@ use borrow.Author.Rules.{rules}
 use Rattle.program.proofs.numbers_allowed.Goals as goal
 
 pub returns-then-not-all_finite : goal.returns-then-not-all_finite
-returns-then-not-all_finite c = simp (sym c.all_finite.ensures ∙ not-true _ c.if-not-all_finite.true)
+returns-then-not-all_finite c = simp (sym c.all_finite.ensures ∙ c.if-not-all_finite.true)
 
 pub returns : goal.returns
-returns c = c.named_allowed.ensures ∙ simp (sym c.all_finite.ensures ∙ not-false _ c.if-not-all_finite.false)
+returns c = c.named_allowed.ensures ∙ simp (sym c.all_finite.ensures ∙ c.if-not-all_finite.false)

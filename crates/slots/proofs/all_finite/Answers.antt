@@ -16,12 +16,12 @@ loop-i-init c = (search rules, search rules, refl)
 pub returns-then-not-numbers_finite : goal.returns-then-not-numbers_finite
 returns-then-not-numbers_finite c =
     let l = c.loop-i in
-    sym (l.invariant.2 ∙ finite-from _ l.i _ (omega arith) ∙ sym (and-false _ (sym c.numbers_finite.ensures ∙ not-true _ c.if-not-numbers_finite.true)))
+    sym (l.invariant.2 ∙ finite-from _ l.i _ (omega arith) ∙ sym (and-false _ (sym c.numbers_finite.ensures ∙ c.if-not-numbers_finite.true)))
 
 pub loop-i-preserved : goal.loop-i-preserved
 loop-i-preserved c =
     let l = c.loop-i in
-    (search rules, l.invariant.1, l.invariant.2 ∙ finite-from _ l.i _ (omega arith) ∙ sym (and-true (sym c.numbers_finite.ensures ∙ not-false _ c.if-not-numbers_finite.false)))
+    (search rules, l.invariant.1, l.invariant.2 ∙ finite-from _ l.i _ (omega arith) ∙ sym (and-true (sym c.numbers_finite.ensures ∙ c.if-not-numbers_finite.false)))
 
 pub returns : goal.returns
 returns c =

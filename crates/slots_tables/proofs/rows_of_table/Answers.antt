@@ -9,22 +9,22 @@ pub returns-then-not-allowed : goal.returns-then-not-allowed
 unfolding judged
 returns-then-not-allowed c =
     let a = c.args in
-    simp (not-true a.allowed c.if-not-allowed.true)
+    simp (c.if-not-allowed.true)
 
 pub returns-then-tables-lt-TABLES : goal.returns-then-tables-lt-TABLES
 unfolding judged
 returns-then-tables-lt-TABLES c =
     let a = c.args in
-    simp (not-false a.allowed c.if-not-allowed.false, lt-ltb a.tables tables_need c.if-tables-lt-TABLES.true)
+    simp (c.if-not-allowed.false, lt-ltb a.tables tables_need c.if-tables-lt-TABLES.true)
 
 pub returns-then-table-ne-POINTS : goal.returns-then-table-ne-POINTS
 unfolding judged
 returns-then-table-ne-POINTS c =
     let a = c.args in
-    simp (not-false a.allowed c.if-not-allowed.false, le-ltb a.tables tables_need c.if-tables-lt-TABLES.false, ne_eqb a.table points c.if-table-ne-POINTS.true)
+    simp (c.if-not-allowed.false, le-ltb a.tables tables_need c.if-tables-lt-TABLES.false, ne_eqb a.table points c.if-table-ne-POINTS.true)
 
 pub returns : goal.returns
 unfolding judged
 returns c =
     let a = c.args in
-    simp (not-false a.allowed c.if-not-allowed.false, le-ltb a.tables tables_need c.if-tables-lt-TABLES.false, eq-eqb a.table points c.if-table-ne-POINTS.false)
+    simp (c.if-not-allowed.false, le-ltb a.tables tables_need c.if-tables-lt-TABLES.false, eq-eqb a.table points c.if-table-ne-POINTS.false)

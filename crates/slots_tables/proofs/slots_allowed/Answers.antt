@@ -16,12 +16,12 @@ loop-i-init c = (search rules, search rules, refl)
 pub returns-then-not-slot_allowed : goal.returns-then-not-slot_allowed
 returns-then-not-slot_allowed c =
     let l = c.loop-i in
-    sym (l.invariant.2 ∙ allowed-from _ _ l.i _ (omega arith) ∙ sym (and-false _ (sym c.slot_allowed.ensures ∙ not-true _ c.if-not-slot_allowed.true)))
+    sym (l.invariant.2 ∙ allowed-from _ _ l.i _ (omega arith) ∙ sym (and-false _ (sym c.slot_allowed.ensures ∙ c.if-not-slot_allowed.true)))
 
 pub loop-i-preserved : goal.loop-i-preserved
 loop-i-preserved c =
     let l = c.loop-i in
-    (search rules, l.invariant.1, l.invariant.2 ∙ allowed-from _ _ l.i _ (omega arith) ∙ sym (and-true (sym c.slot_allowed.ensures ∙ not-false _ c.if-not-slot_allowed.false)))
+    (search rules, l.invariant.1, l.invariant.2 ∙ allowed-from _ _ l.i _ (omega arith) ∙ sym (and-true (sym c.slot_allowed.ensures ∙ c.if-not-slot_allowed.false)))
 
 pub returns : goal.returns
 returns c =

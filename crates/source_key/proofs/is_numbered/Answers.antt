@@ -23,7 +23,7 @@ returns-then-not-same_bytes c =
     let a = c.args in
     let word = a.word.now in
     let key = a.key.now in
-    let other : same_bytes word (take (length word) key) ≡ false = ap (same_bytes word) (sym (front key (length word))) ∙ sym c.same_bytes.ensures ∙ not-true _ c.if-not-same_bytes.true in
+    let other : same_bytes word (take (length word) key) ≡ false = ap (same_bytes word) (sym (front key (length word))) ∙ sym c.same_bytes.ensures ∙ c.if-not-same_bytes.true in
     sym (numbered-other word a.after.now key a.n other)
 
 pub returns : goal.returns
@@ -31,7 +31,7 @@ returns c =
     let a = c.args in
     let word = a.word.now in
     let key = a.key.now in
-    let same : same_bytes word (take (length word) key) ≡ true = ap (same_bytes word) (sym (front key (length word))) ∙ sym c.same_bytes.ensures ∙ not-false _ c.if-not-same_bytes.false in
+    let same : same_bytes word (take (length word) key) ≡ true = ap (same_bytes word) (sym (front key (length word))) ∙ sym c.same_bytes.ensures ∙ c.if-not-same_bytes.false in
     c.number_then.ensures
     ∙ ap (λ (l : List ℕ). number_then a.n a.after.now l) (rest_from key (length word))
     ∙ sym (numbered-same word a.after.now key a.n same)

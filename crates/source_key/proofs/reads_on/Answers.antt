@@ -21,7 +21,7 @@ returns-then-not-is_digit c =
     let i = c.loop-i.i in
     let b = get_or rest i 0 in
     let inside : i < length rest = omega arith in
-    let other : is_digit b ≡ false = sym c.is_digit.ensures ∙ not-true _ c.if-not-is_digit.true in
+    let other : is_digit b ≡ false = sym c.is_digit.ensures ∙ c.if-not-is_digit.true in
     c.same_bytes.ensures
     ∙ ap (λ (l : List ℕ). same_bytes l a.after.now) (rest_from rest i)
     ∙ sym (c.loop-i.invariant.2 ∙ read-other a.n a.after.now c.loop-i.v rest i inside c.loop-i.invariant.1 other)
@@ -33,7 +33,7 @@ above-requires c =
     let i = c.loop-i.i in
     let b = get_or rest i 0 in
     let inside : i < length rest = omega arith in
-    let digit : is_digit b ≡ true = sym c.is_digit.ensures ∙ not-false _ c.if-not-is_digit.false in
+    let digit : is_digit b ≡ true = sym c.is_digit.ensures ∙ c.if-not-is_digit.false in
     digit-from b digit
 
 pub returns-then-above : goal.returns-then-above
@@ -43,7 +43,7 @@ returns-then-above c =
     let i = c.loop-i.i in
     let b = get_or rest i 0 in
     let inside : i < length rest = omega arith in
-    let digit : is_digit b ≡ true = sym c.is_digit.ensures ∙ not-false _ c.if-not-is_digit.false in
+    let digit : is_digit b ≡ true = sym c.is_digit.ensures ∙ c.if-not-is_digit.false in
     let over = ltb-true a.n (longer c.loop-i.v b) (sym c.above.ensures ∙ c.if-above.true) in
     sym
     (c.loop-i.invariant.2
@@ -57,7 +57,7 @@ next_number-v-requires c =
     let i = c.loop-i.i in
     let b = get_or rest i 0 in
     let inside : i < length rest = omega arith in
-    let digit : is_digit b ≡ true = sym c.is_digit.ensures ∙ not-false _ c.if-not-is_digit.false in
+    let digit : is_digit b ≡ true = sym c.is_digit.ensures ∙ c.if-not-is_digit.false in
     (digit-from b digit, ltb-false a.n (longer c.loop-i.v b) (sym c.above.ensures ∙ c.if-above.false))
 
 pub loop-i-preserved : goal.loop-i-preserved
@@ -67,7 +67,7 @@ loop-i-preserved c =
     let i = c.loop-i.i in
     let b = get_or rest i 0 in
     let inside : i < length rest = omega arith in
-    let digit : is_digit b ≡ true = sym c.is_digit.ensures ∙ not-false _ c.if-not-is_digit.false in
+    let digit : is_digit b ≡ true = sym c.is_digit.ensures ∙ c.if-not-is_digit.false in
     let under = ltb-false a.n (longer c.loop-i.v b) (sym c.above.ensures ∙ c.if-above.false) in
     let next = c.next_number-v.ensures in
     (omega arith, rw next under, c.loop-i.invariant.2 ∙ read-digit a.n a.after.now c.loop-i.v rest i inside digit ∙ rw next)

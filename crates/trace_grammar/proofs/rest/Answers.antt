@@ -17,11 +17,11 @@ loop-p-init c = (c.requires.2, omega arith, c.requires.3, refl)
 pub returns-then-not-is_fit : goal.returns-then-not-is_fit
 returns-then-not-is_fit c =
     let l = c.args.line.now in
-    rest-wrong l c.loop-p.s c.loop-p.k c.loop-p.p (command_at c.args.row) c.kind_at-kind.result c.word_at-w.result.now _ c.loop-p-test.true c.loop-p.invariant.2 c.word_at-w.ensures c.kind_at-kind.ensures (sym c.is_fit.ensures ∙ not-true _ c.if-not-is_fit.true) c.loop-p.invariant.3
+    rest-wrong l c.loop-p.s c.loop-p.k c.loop-p.p (command_at c.args.row) c.kind_at-kind.result c.word_at-w.result.now _ c.loop-p-test.true c.loop-p.invariant.2 c.word_at-w.ensures c.kind_at-kind.ensures (sym c.is_fit.ensures ∙ c.if-not-is_fit.true) c.loop-p.invariant.3
 
 pub after-s-requires : goal.after-s-requires
 after-s-requires c =
-    inside c.loop-p.s c.kind_at-kind.result c.word_at-w.result.now c.kind_at-kind.ensures (sym c.is_fit.ensures ∙ not-false _ c.if-not-is_fit.false)
+    inside c.loop-p.s c.kind_at-kind.result c.word_at-w.result.now c.kind_at-kind.ensures (sym c.is_fit.ensures ∙ c.if-not-is_fit.false)
 
 pub loop-p-smaller : goal.loop-p-smaller
 loop-p-smaller c =
@@ -35,7 +35,7 @@ loop-p-preserved c =
     let h = c.loop-p-test.true in
     let on = c.next-p.ensures.onward h in
     let w = c.word_at-w.result.now in
-    let fit = sym c.is_fit.ensures ∙ not-false _ c.if-not-is_fit.false in
+    let fit = sym c.is_fit.ensures ∙ c.if-not-is_fit.false in
     let place = c.after-s.ensures ∙ ap (λ (n : ℕ). after_class n c.loop-p.s w) c.class_of.ensures in
     (c.next-p.ensures.within, omega arith, c.next-p.ensures.begun, rest-on l c.loop-p.s c.loop-p.k c.loop-p.p c.next-p.result c.after-s.result (command_at c.args.row) c.kind_at-kind.result w _ h c.loop-p.invariant.2 c.word_at-w.ensures c.kind_at-kind.ensures fit place c.next-p.ensures c.loop-p.invariant.3)
 

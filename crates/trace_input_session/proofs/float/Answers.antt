@@ -12,9 +12,9 @@ returns-then-w-ne8 c = simp (ne_eqb _ _ c.if-w-ne8.true, c.decimal_word.ensures)
 pub returns-then-not-all_hex : goal.returns-then-not-all_hex
 unfolding float_of
 returns-then-not-all_hex c =
-    simp (eq-eqb _ _ c.if-w-ne8.false, sym c.all_hex.ensures ∙ not-true _ c.if-not-all_hex.true, c.decimal_word-then-not-all_hex.ensures)
+    simp (eq-eqb _ _ c.if-w-ne8.false, sym c.all_hex.ensures ∙ c.if-not-all_hex.true, c.decimal_word-then-not-all_hex.ensures)
 
 pub returns : goal.returns
 unfolding float_of
 returns c =
-    simp (eq-eqb _ _ c.if-w-ne8.false, sym c.all_hex.ensures ∙ not-false _ c.if-not-all_hex.false, c.of_bits.ensures, c.hex.ensures)
+    simp (eq-eqb _ _ c.if-w-ne8.false, sym c.all_hex.ensures ∙ c.if-not-all_hex.false, c.of_bits.ensures, c.hex.ensures)

@@ -16,7 +16,7 @@ returns-then-not-is_blank c =
     let i = c.loop-i.i in
     let from = c.args.from in
     let h = c.loop-i-test.true in
-    let here = sym c.is_blank.ensures ∙ not-true _ c.if-not-is_blank.true in
+    let here = sym c.is_blank.ensures ∙ c.if-not-is_blank.true in
     record { within = omega arith; onward = λ k. omega arith; begun = λ k. here; rest = c.loop-i.invariant.1 }
 
 pub loop-i-preserved : goal.loop-i-preserved
@@ -25,7 +25,7 @@ loop-i-preserved c =
     let i = c.loop-i.i in
     let from = c.args.from in
     let h = c.loop-i-test.true in
-    let here = sym c.is_blank.ensures ∙ not-false _ c.if-not-is_blank.false in
+    let here = sym c.is_blank.ensures ∙ c.if-not-is_blank.false in
     (search rules, sym (blank-at l i false h here) ∙ c.loop-i.invariant.1)
 
 pub returns : goal.returns

@@ -6,22 +6,22 @@ use Rattle.voice.proofs.legato_time.Goals as goal
 
 pub returns-then-not-legato : goal.returns-then-not-legato
 unfolding legato_time
-returns-then-not-legato c = simp (not-true c.args.legato c.if-not-legato.true)
+returns-then-not-legato c = simp (c.if-not-legato.true)
 
 pub returns-then-not-glide : goal.returns-then-not-glide
 unfolding legato_time
 returns-then-not-glide c =
     let a = c.args in
-    simp (not-false a.legato c.if-not-legato.false, not-true a.glide c.if-not-glide.true)
+    simp (c.if-not-legato.false, c.if-not-glide.true)
 
 pub returns-then-seconds : goal.returns-then-seconds
 unfolding legato_time of_bits
 returns-then-seconds c =
     let a = c.args in
-    simp (not-false a.legato c.if-not-legato.false, not-false a.glide c.if-not-glide.false, c.if-seconds.true)
+    simp (c.if-not-legato.false, c.if-not-glide.false, c.if-seconds.true)
 
 pub returns : goal.returns
 unfolding legato_time of_bits
 returns c =
     let a = c.args in
-    simp (not-false a.legato c.if-not-legato.false, not-false a.glide c.if-not-glide.false, c.if-seconds.false)
+    simp (c.if-not-legato.false, c.if-not-glide.false, c.if-seconds.false)

@@ -14,7 +14,7 @@ returns-then-not-any_moving c =
     let a = c.args in
     let long : length a.self.value ≡ most_voices = search (rules, length-mapped) in
     let as_long : length a.self.glide ≡ most_voices = search (rules, length-mapped) in
-    sym (advanced-still a.self a.frames (long ∙ sym as_long) (sym c.any_moving.ensures ∙ not-true c.any_moving.result c.if-not-any_moving.true))
+    sym (advanced-still a.self a.frames (long ∙ sym as_long) (sym c.any_moving.ensures ∙ c.if-not-any_moving.true))
 
 pub returns : goal.returns
 unfolding advanced
