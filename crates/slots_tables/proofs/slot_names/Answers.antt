@@ -8,8 +8,8 @@ use Rattle.slots_tables.proofs.slot_names.Goals as goal
 
 pub returns-then-not-is_linear : goal.returns-then-not-is_linear
 unfolding slot_names
-returns-then-not-is_linear c = or-true _ (sym (ap not c.is_linear.ensures) ∙ c.if-not-is_linear.true)
+returns-then-not-is_linear c = or-true _ (sym (ap not c.is_linear.ensures) ∙ ap not c.if-not-is_linear.true)
 
 pub returns : goal.returns
 unfolding slot_names
-returns c = ap not c.is_linear-2.ensures ∙ or-false (sym (ap not c.is_linear.ensures) ∙ c.if-not-is_linear.false)
+returns c = ap not c.is_linear-2.ensures ∙ or-false (sym (ap not c.is_linear.ensures) ∙ ap not c.if-not-is_linear.false)
