@@ -1,5 +1,5 @@
 -- Places in a list. Assumes nothing.
-use mathlib.Core.Path.{◌≡◌, refl, sym, ap, ◌∙◌}
+use mathlib.Core.Path.{◌≡◌, refl, sym, ap, subst, ◌∙◌}
 use mathlib.Core.Logic.{◌≢◌}
 use mathlib.Core.List.{List, [], ◌∷◌}
 use Prim.Native.Nat.{ℕ, zero, suc, ◌<◌}
@@ -23,7 +23,9 @@ index_in a d (e ∷ l) m h = go (ℕ_discrete a e) (ℕ_discrete d e) (index_in 
   where
     go : Dec (a ≡ e) → Dec (d ≡ e) → (In d l → index_of a l < index_of d l → In a l) → In a (e ∷ l)
     go (yes p) q ih = rw p (omega (arith, hit_same e))
-    go (no p) (yes q) ih = absurd (omega (arith, index_same e l, rw q at h))
+    go (no p) (yes q) ih =
+        let k : index_of a (e ∷ l) < index_of e (e ∷ l) = subst (λ (x : ℕ). index_of a (e ∷ l) < index_of x (e ∷ l)) q h in
+        absurd (omega (arith, index_same e l, k))
     go (no p) (no q) ih = omega (arith, ih (omega (arith, hit_other d e q)) (omega (arith, index-other a e l p, index-other d e l q)))
 
 -- what stands at the place of a is a, and its place is in the list

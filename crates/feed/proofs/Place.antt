@@ -1,5 +1,5 @@
 -- The tick meets the rule by place, for any feeds, and nothing else does. Assumes nothing.
-use mathlib.Core.Path.{◌≡◌, refl, sym, ap, ◌∙◌, fun_ext}
+use mathlib.Core.Path.{◌≡◌, refl, sym, ap, subst, ◌∙◌, fun_ext}
 use mathlib.Core.Logic.{◌≢◌}
 use mathlib.Core.Bool.{Bool, true, false, cond}
 use mathlib.Core.List.{List, [], ◌∷◌}
@@ -54,7 +54,8 @@ module _ {Val : Type 0} (F : ℕ → (ℕ → Val) → Val) where
 
       later : d ≢ e → (a : ℕ) → seen l E f' d a ≡ seen (e ∷ l) E f d a
       later ne a = elim (ℕ_discrete a e) [
-        | yes p ↦ rw p (sym (either (ltb (index_of e l) (index_of d l))) ∙ sym (head ne))
+        | yes p ↦ subst (λ (x : ℕ). seen l E f' d x ≡ seen (e ∷ l) E f d x) (sym p)
+            (sym (either (ltb (index_of e l) (index_of d l))) ∙ sym (head ne))
         | no q ↦ rw (ne_eqb a e q, ne_eqb d e ne, leb-suc-suc (suc (index_of a l)) (index_of d l))
       ]
 

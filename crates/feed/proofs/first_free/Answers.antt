@@ -20,7 +20,7 @@ pub returns-then-not-is_fed : goal.returns-then-not-is_fed
 returns-then-not-is_fed c =
     let s = c.args in
     first-here (is_free s.feeds.now s.placed.now s.n) s.placed.now s.n s.n c.loop-b.b (omega arith)
-    (c.if-not-placed-b.true) (ap not (sym c.is_fed.ensures) ∙ c.if-not-is_fed.true)
+    (c.if-not-placed-b.true) (ap not (sym c.is_fed.ensures ∙ c.if-not-is_fed.true))
     ∙ sym c.loop-b.invariant.1
 
 pub loop-b-preserved : goal.loop-b-preserved
@@ -31,8 +31,8 @@ loop-b-preserved c =
     let lt : b < s.n = omega arith in (
       omega arith,
       c.loop-b.invariant.1 ∙ elim c.if-not-placed-b.branch [
-        | inl w ↦ first-not test s.placed.now s.n s.n b lt (not-true _ w.0.true) (ap not (sym w.1.ensures) ∙ w.2.false)
-        | inr w ↦ first_taken test s.placed.now s.n s.n b lt (not-false _ w.false)
+        | goal.then-not-placed-b+else-not-is_fed w ↦ first-not test s.placed.now s.n s.n b lt w.if-not-placed-b.true (ap not (sym w.is_fed.ensures ∙ w.if-not-is_fed.false))
+        | goal.else-not-placed-b w ↦ first_taken test s.placed.now s.n s.n b lt w.if-not-placed-b.false
       ],
     )
 

@@ -28,9 +28,9 @@ loop-a-preserved c =
     let lt : a < s.n = omega arith in (
       omega arith,
       c.loop-a.invariant.1 ∙ elim c.if-not-placed-a.branch [
-        | inl w ↦ fed-self f s.placed.now s.n s.b a lt (not-true _ w.0.true) w.2.true w.3.false
-        | inr (inl w) ↦ fed-not f s.placed.now s.n s.b a lt (not-true _ w.0.true) w.2.false
-        | inr (inr w) ↦ fed-taken f s.placed.now s.n s.b a lt (not-false _ w.false)
+        | goal.then-not-placed-a+then-feeds-a+else-a-b w ↦ fed-self f s.placed.now s.n s.b a lt w.if-not-placed-a.true w.if-feeds-a.true w.if-a-b.false
+        | goal.then-not-placed-a+else-feeds-a w ↦ fed-not f s.placed.now s.n s.b a lt w.if-not-placed-a.true w.if-feeds-a.false
+        | goal.else-not-placed-a w ↦ fed-taken f s.placed.now s.n s.b a lt w.if-not-placed-a.false
       ],
     )
 
