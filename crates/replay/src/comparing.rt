@@ -1,6 +1,6 @@
 // A line's answer, as printed, against the stored one. In a list a line that begins with = starts a new session, and one that begins with | is a line of the
 // answer to the session line above it; lines that begin with # are passed over.
-use libc::STDOUT_FILENO;
+use std::io::Stdout;
 
 // How far a list is: its answers so far, how many of them differ, and how many lines of the session have been answered. Of the last answer the bytes before
 // `from` are as stored, and it is one that differs where `same` is not set.
@@ -53,12 +53,13 @@ fn begins(out: &[u8], from: usize, at: usize, text: &[u8]) -> bool {
     trace_input_session::is(trace_input_session::part(out, from, e), text)
 }
 
-fn print(number: u64, what: &[u8], text: &[u8]) {
-    io::write_all(STDOUT_FILENO, b"line ");
-    io::print_decimal(STDOUT_FILENO, number);
-    io::write_all(STDOUT_FILENO, what);
-    io::write_all(STDOUT_FILENO, text);
-    io::write_all(STDOUT_FILENO, b"\n");
+fn print(stdout: Stdout, number: u64, what: &[u8], text: &[u8]) {
+    let mut to = stdout;
+    streams::write(&mut to, b"line ");
+    streams::write_decimal(&mut to, number);
+    streams::write(&mut to, what);
+    streams::write(&mut to, text);
+    streams::write(&mut to, b"\n");
 }
 
 // the line of the output at a place
@@ -67,19 +68,19 @@ fn printed(out: &[u8], from: usize, at: usize) -> &[u8] {
 }
 
 // the answer differs, which is printed where it is among the first that do
-fn different(t: Tally, number: u64, stored: &[u8], answered: &[u8]) -> Tally {
+fn different(stdout: Stdout, t: Tally, number: u64, stored: &[u8], answered: &[u8]) -> Tally {
     let mut next = t;
     next.same = false;
     next.differ = std::num::wrapping_add_u64(t.differ, 1);
     if t.differ < SHOWN {
-        print(number, b" of the list: stored ", stored);
-        print(number, b" of the list: answered ", answered);
+        print(stdout, number, b" of the list: stored ", stored);
+        print(stdout, number, b" of the list: answered ", answered);
     }
     next
 }
 
 // with a stored line of the last answer
-fn stored(t: Tally, number: u64, text: &[u8], out: &[u8], at: usize) -> Tally {
+fn stored(t: Tally, number: u64, text: &[u8], stdout: Stdout, out: &[u8], at: usize) -> Tally {
     if !t.same {
         return t;
     }
@@ -89,11 +90,11 @@ fn stored(t: Tally, number: u64, text: &[u8], out: &[u8], at: usize) -> Tally {
         next.from = trace_input_lines::after(feed_at(from, at, text));
         return next;
     }
-    different(t, number, text, printed(out, from, at))
+    different(stdout, t, number, text, printed(out, from, at))
 }
 
 // the last answer is over: nothing of it is left
-pub fn over(t: Tally, number: u64, out: &[u8], at: usize) -> Tally {
+pub fn over(t: Tally, number: u64, stdout: Stdout, out: &[u8], at: usize) -> Tally {
     if !t.same {
         return t;
     }
@@ -101,7 +102,7 @@ pub fn over(t: Tally, number: u64, out: &[u8], at: usize) -> Tally {
     if from == at {
         return t;
     }
-    different(t, number, b"no more", printed(out, from, at))
+    different(stdout, t, number, b"no more", printed(out, from, at))
 }
 
 // ---- lines of a list
@@ -146,19 +147,20 @@ pub fn room(line: &[u8], at: usize) -> usize {
 }
 
 // with a line that is read, before it is answered: of the last answer `at` bytes are printed
-pub fn read(t: Tally, number: u64, text: &[u8], out: &[u8], at: usize) -> Tally {
+pub fn read(t: Tally, number: u64, text: &[u8], stdout: Stdout, out: &[u8], at: usize) -> Tally {
     let b = mark(text);
     if b == 124 {
         return stored(
             t,
             number,
             trace_input_session::part(text, 1, text.len()),
+            stdout,
             out,
             at,
         );
     }
     if is_session(b) {
-        return over(t, number, out, at);
+        return over(t, number, stdout, out, at);
     }
     t
 }
@@ -217,10 +219,11 @@ pub fn sum(a: Tally, b: Tally) -> Tally {
 }
 
 // a list's name with its tally
-pub fn show(name: &[u8], t: Tally) {
-    io::write_all(STDOUT_FILENO, name);
-    io::print_decimal(STDOUT_FILENO, t.answers);
-    io::write_all(STDOUT_FILENO, b" answers, ");
-    io::print_decimal(STDOUT_FILENO, t.differ);
-    io::write_all(STDOUT_FILENO, b" differ\n");
+pub fn show(stdout: Stdout, name: &[u8], t: Tally) {
+    let mut to = stdout;
+    streams::write(&mut to, name);
+    streams::write_decimal(&mut to, t.answers);
+    streams::write(&mut to, b" answers, ");
+    streams::write_decimal(&mut to, t.differ);
+    streams::write(&mut to, b" differ\n");
 }

@@ -7,6 +7,9 @@ ghost use Rattle.std.specs.Prelude.{◌<◌};
 mod comparing;
 
 use comparing::Tally;
+use std::fs;
+use std::fs::File;
+use std::io::Stdout;
 use trace_input_lines::{Coming, Reader};
 use trace_session::Session;
 
@@ -65,6 +68,7 @@ fn step(
     t: Tally,
     a: Coming,
     input: &[u8],
+    stdout: Stdout,
     out: &mut [u8],
     book: &mut [usize],
     desk: &mut [f32],
@@ -74,7 +78,7 @@ fn step(
 ) -> Stepped {
     let text = trace_input_session::part(input, a.start, a.stop);
     let waiting = trace_session::waiting(s);
-    let u = comparing::read(t, a.number, text, out, waiting);
+    let u = comparing::read(t, a.number, text, stdout, out, waiting);
     let line = comparing::line_of(text);
     let session = trace_session::answered(
         s,
@@ -82,6 +86,7 @@ fn step(
         comparing::next_line(u),
         a.all,
         line,
+        stdout,
         out,
         book,
         desk,
@@ -107,10 +112,11 @@ struct Replayed {
 
 // The rest of a session, from fresh memories, at most 2^62 lines of it; the line that starts the next one is read too.
 fn replay_lines(
-    fd: i32,
+    file: &mut File,
     from: Reader,
     before: Tally,
     input: &mut [u8],
+    stdout: Stdout,
     out: &mut [u8],
     book: &mut [usize],
     desk: &mut [f32],
@@ -124,8 +130,8 @@ fn replay_lines(
     let mut done = false;
     let mut left = 4611686018427387904u64;
     while 0 < left {
-        let a = trace_input_lines::ahead(fd, input, r);
-        let p = step(s, t, a, input, out, book, desk, values, audio, pool);
+        let a = trace_input_lines::ahead(file, input, r);
+        let p = step(s, t, a, input, stdout, out, book, desk, values, audio, pool);
         let session = p.session;
         s = session;
         let tally = p.tally;
@@ -135,7 +141,7 @@ fn replay_lines(
         done = a.done;
         left = fewer(left, p.over, done);
     }
-    let tally = comparing::over(t, r.number, out, trace_session::waiting(s));
+    let tally = comparing::over(t, r.number, stdout, out, trace_session::waiting(s));
     Replayed {
         reader: r,
         tally,
@@ -145,10 +151,11 @@ fn replay_lines(
 
 // a session
 fn replay_session(
-    fd: i32,
+    file: &mut File,
     from: Reader,
     before: Tally,
     input: &mut [u8],
+    stdout: Stdout,
     out: &mut [u8],
     book: &mut [usize],
     desk: &mut [f32],
@@ -158,10 +165,11 @@ fn replay_session(
 ) -> Replayed {
     clear(book, desk, values, audio, pool);
     replay_lines(
-        fd,
+        file,
         from,
         comparing::begun(before),
         input,
+        stdout,
         out,
         book,
         desk,
@@ -173,10 +181,11 @@ fn replay_session(
 
 // ---- lists
 
-// A list that is open as fd, at most 2^62 sessions of it.
+// A list whose file is open, at most 2^62 sessions of it.
 fn replay_list(
-    fd: i32,
+    file: &mut File,
     input: &mut [u8],
+    stdout: Stdout,
     out: &mut [u8],
     book: &mut [usize],
     desk: &mut [f32],
@@ -188,7 +197,9 @@ fn replay_list(
     let mut r = trace_input_lines::first();
     let mut left = 4611686018427387904u64;
     while 0 < left {
-        let p = replay_session(fd, r, t, input, out, book, desk, values, audio, pool);
+        let p = replay_session(
+            file, r, t, input, stdout, out, book, desk, values, audio, pool,
+        );
         let tally = p.tally;
         t = tally;
         let reader = p.reader;
@@ -199,7 +210,7 @@ fn replay_list(
 }
 
 // the same, with memories of its own
-fn replay_open(fd: i32) -> Tally {
+fn replay_open(stdout: Stdout, file: &mut File) -> Tally {
     let mut input = [0u8; 65536];
     let mut out = [0u8; 131072];
     let mut book = [0usize; trace_dispatch::BOOK];
@@ -208,8 +219,9 @@ fn replay_open(fd: i32) -> Tally {
     let mut audio = [0.0f32; 450000];
     let mut pool = [0.0f32; 600000];
     replay_list(
-        fd,
+        file,
         &mut input,
+        stdout,
         &mut out,
         &mut book,
         &mut desk,
@@ -220,22 +232,25 @@ fn replay_open(fd: i32) -> Tally {
 }
 
 // the list in a file
-fn replay_file(path: &[u8], name: &[u8], before: Tally) -> Tally {
-    let fd = os::open_read(path);
-    if fd < 0 {
-        os::fail(path);
-        return before;
+fn replay_file(rt: HostRuntime, path: &str, name: &[u8], before: Tally) -> Tally {
+    match fs::open(&rt, path) {
+        Ok(mut file) => {
+            let t = replay_open(rt.stdout(), &mut file);
+            comparing::show(rt.stdout(), name, t);
+            comparing::sum(before, t)
+        }
+        Err(error) => {
+            let mut to = rt.stderr();
+            streams::write_failure(&mut to, path, error);
+            before
+        }
     }
-    let t = replay_open(fd);
-    libc::close(fd);
-    comparing::show(name, t);
-    comparing::sum(before, t)
 }
 
-fn main() {
-    let cases = replay_file(b"cases.txt", b"cases: ", comparing::none());
-    let rows = replay_file(b"rows.txt", b"rows: ", cases);
-    let random = replay_file(b"random.txt", b"random: ", rows);
-    let all = replay_file(b"words.txt", b"words: ", random);
-    comparing::show(b"replay: ", all);
+fn main(rt: HostRuntime) {
+    let cases = replay_file(rt, "cases.txt", b"cases: ", comparing::none());
+    let rows = replay_file(rt, "rows.txt", b"rows: ", cases);
+    let random = replay_file(rt, "random.txt", b"random: ", rows);
+    let all = replay_file(rt, "words.txt", b"words: ", random);
+    comparing::show(rt.stdout(), b"replay: ", all);
 }
