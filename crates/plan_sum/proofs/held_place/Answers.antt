@@ -1,4 +1,5 @@
 -- `plan_sum::held_place` meets its contract.
+use mathlib.Core.Bool.{not}
 use borrow.Author.Rules.{rules}
 use mathlib.Core.Path.{◌≡◌, refl, sym, ap, ◌∙◌}
 use native.Mathlib.Omega.{arith}
@@ -12,4 +13,4 @@ overflow_mul-start c = let a = c.args in
     omega (arith, product-bound a.source a.stride 255 64 (omega arith) c.requires)
 
 pub returns : goal.returns
-returns c = λ i m. (leb-true _ _ (was-true c.fits2.ensures c.if-not-fits.false), λ z e l. e l (was-true refl c.if-not-voice.false))
+returns c = λ i m. (leb-true _ _ (was-true c.fits2.ensures (ap not c.if-not-fits.false)), λ z e l. e l (was-true refl (ap not c.if-not-voice.false)))

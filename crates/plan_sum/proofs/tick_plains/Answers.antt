@@ -1,4 +1,5 @@
 -- `plan_sum::tick_plains` meets its contract.
+use mathlib.Core.Bool.{not}
 use borrow.Author.Rules.{rules}
 use mathlib.Core.Path.{ap, ◌∙◌}
 use native.Mathlib.Omega.{arith}
@@ -20,5 +21,5 @@ pub returns : goal.returns
 returns c = λ t f s x k e l b.
     let a = c.args in
     let all = c.totals_of-all.ensures t x k.job in
-    let wide = plain-wide l k.job (was-true all.some c.if-not-some.false) b in
+    let wide = plain-wide l k.job (was-true all.some (ap not c.if-not-some.false)) b in
     begun-plain t f s x l all.some c.if-not-some.false (c.plain_row.ensures t f s x k (ap (λ (z : Float). plus z c.totals_of-all.result.offset) e ∙ ap (plus (base_in t x)) all.offset) l wide) (get_or-replicate 64 l a.base nan (omega (arith, lanes-most a.job c.requires, b))) e

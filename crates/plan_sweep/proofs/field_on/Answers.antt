@@ -1,4 +1,6 @@
 -- `plan_sweep::field_on` meets its contract.
+use mathlib.Core.Path.{ap}
+use mathlib.Core.Bool.{not}
 use mathlib.Core.Path.{◌≡◌, refl}
 use borrow.Author.Tests.{eqb-true}
 use Rattle.lane_input.proofs.Tests.{was-true}
@@ -10,4 +12,4 @@ pub returns-then-not-sounds : goal.returns-then-not-sounds
 returns-then-not-sounds c = λ h. never h
 
 pub returns : goal.returns
-returns c = λ h. (was-true refl c.if-not-sounds.false, eqb-true _ _ h)
+returns c = λ h. (was-true refl (ap not c.if-not-sounds.false), eqb-true _ _ h)

@@ -1,4 +1,6 @@
 -- `plan_sweep::is_swept` meets its contract.
+use mathlib.Core.Path.{ap}
+use mathlib.Core.Bool.{not}
 use mathlib.Core.Path.{◌≡◌, refl}
 use native.Mathlib.Omega.{arith}
 use Rattle.lane_input.proofs.Tests.{was-true}
@@ -27,10 +29,10 @@ returns-then-not-is_number c = λ h. never h
 pub returns : goal.returns
 returns c = λ h.
     record {
-      on = was-true refl c.if-not-field.false;
-      voice = was-true refl c.if-not-plan.false;
+      on = was-true refl (ap not c.if-not-field.false;)
+      voice = was-true refl (ap not c.if-not-plan.false;)
       some = positive _ c.if-count-eq0.false;
       routes = omega (arith, c.if-first-count.false, c.if-first-gt-SLOTS.false);
-      number = c.is_number.ensures (was-true refl c.if-not-is_number.false);
+      number = c.is_number.ensures (was-true refl (ap not c.if-not-is_number.false));
       led = c.all_led.ensures h;
     }

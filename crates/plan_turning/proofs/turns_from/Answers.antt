@@ -1,3 +1,4 @@
+use mathlib.Core.Bool.{not}
 use Rattle.plan_turning.specs.Turns.{Prepared, turned}
 use mathlib.Core.Path.{◌≡◌, refl, ap, ◌∙◌}
 use native.Mathlib.Omega.{arith}
@@ -24,7 +25,7 @@ returns-then-not-is_turned c = let i = c.loop-d in (i.invariant.0, i.invariant.1
 
 pub turn-requires : goal.turn-requires
 turn-requires c =
-    let fit = c.is_turned.ensures (was-true refl c.if-not-is_turned.false) in
+    let fit = c.is_turned.ensures (was-true refl (ap not c.if-not-is_turned.false)) in
     (c.requires.0, fit.0, fit.1)
 
 pub loop-d-preserved : goal.loop-d-preserved
@@ -33,7 +34,7 @@ loop-d-preserved c =
     let i = c.loop-d in
     let near : i.d < a.round.control = omega (arith, c.loop-d-test.true) in
     let there : i.d < length a.plans = omega (arith, i.invariant.3, c.requires.0.control) in
-    let fit = c.is_turned.ensures (was-true refl c.if-not-is_turned.false) in (
+    let fit = c.is_turned.ensures (was-true refl (ap not c.if-not-is_turned.false)) in (
       omega (arith, i.invariant.0),
       omega arith,
       search rules,
