@@ -109,14 +109,14 @@ module _ (w : Wiring) (slotted : length w.matrix.slot ≡ slots) (t : Env) (phas
     voice-at : slot_voice w n ≡ (r n).voice
     voice-at = sym (voice-slot w fed (slot_into w d (j n)) stands ∙ ap (λ (k : ℕ). slot_voice w k) is)
 
-    offset_at : times (offset_at w n) (product w x n) ≡ times (r n).offset (gain_of t (r n))
-    offset_at =
+    offset-at : times (offset_at w n) (product w x n) ≡ times (r n).offset (gain_of t (r n))
+    offset-at =
         sym (ap₂ times (offset-is w fed t phase v o to d at (j n) stands)
         (product_is w fed t phase v o to d at (j n) stands)
         ∙ ap (λ (k : ℕ). times (offset_at w k) (product w x k)) is)
 
-    scaled_at : scaled_at w x proposed d n ≡ scaled_gain t (r n)
-    scaled_at =
+    scaled-at : scaled_at w x proposed d n ≡ scaled_gain t (r n)
+    scaled-at =
         sym (scaled-same w fed t phase v o to d at (j n) stands ∙ ap (λ (k : ℕ). scaled_at w x proposed d k) is)
 
     read_at : (l : ℕ) → pick_read w x proposed d n l (slot_n w n).source ≡ raw_in t f s (j n) l (r n)
@@ -198,7 +198,7 @@ module _ (w : Wiring) (slotted : length w.matrix.slot ≡ slots) (t : Env) (phas
       go : (sends w n d ≡ true) ⊎ (sends w n d ≡ false) → a ≡ offsets t m (j n)
           → offset_onto w x proposed d n a ≡ offsets t m (j (suc n))
       go (inl b) e =
-          step true b ∙ added-same (plain_at n (omega arith) b) e (offset_at n (omega arith) b)
+          step true b ∙ added-same (plain_at n (omega arith) b) e (offset-at n (omega arith) b)
           ∙ ap (offsets t m) (sent-more n true b)
       go (inr b) e = step false b ∙ e ∙ ap (offsets t m) (sent-more n false b)
 
@@ -240,7 +240,7 @@ module _ (w : Wiring) (slotted : length w.matrix.slot ≡ slots) (t : Env) (phas
       go : (sends w n d ≡ true) ⊎ (sends w n d ≡ false) → a ≡ plains t f s m l (j n)
           → plain_onto w x proposed d n l a ≡ plains t f s m l (j (suc n))
       go (inl b) e =
-          let kept = scaled_at n (omega arith) b in
+          let kept = scaled-at n (omega arith) b in
           step true b
           ∙ added-same (ap₂ (λ (p : Bool) (q : Float). p && not (is_zero q)) (plain_at n (omega arith) b) kept) e
           (ap₂ times (read_at n (omega arith) b l) kept)

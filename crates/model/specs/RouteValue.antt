@@ -16,8 +16,8 @@ use Rattle.model.specs.Lanes.{snap_of, sounding}
 use Rattle.model.specs.Routes.{free_slew, live_gain}
 
 -- an own number of route j
-abbrev pub field_own : Env → Own → ℕ → ℕ → ℕ → Float
-field_own t s j q lane = lane_in t (s j q) lane
+abbrev pub own_at : Env → Own → ℕ → ℕ → ℕ → Float
+own_at t s j q lane = lane_in t (s j q) lane
 
 -- both ways
 abbrev pub spread : Bool → Float → Float
@@ -29,15 +29,15 @@ flipped invert a = cond invert (less one32 a) a
 -- the source of route j, curved and slewed; the same of its aux
 abbrev pub source_in : Env → Rows → Own → ℕ → ℕ → Route → Float
 source_in t f s j lane r =
-    input_in t f r.slot 0 (snap_of t r.voice lane) (field_own t s j 0 lane) (field_own t s j 2 lane) lane r.source
+    input_in t f r.slot 0 (snap_of t r.voice lane) (own_at t s j 0 lane) (own_at t s j 2 lane) lane r.source
 
 abbrev pub aux_in : Env → Rows → Own → ℕ → ℕ → Route → Input → Float
 aux_in t f s j lane r i =
-    input_in t f r.slot 1 (snap_of t r.voice lane) (field_own t s j 1 lane) (field_own t s j 3 lane) lane i
+    input_in t f r.slot 1 (snap_of t r.voice lane) (own_at t s j 1 lane) (own_at t s j 3 lane) lane i
 
 -- the source as it is read
 abbrev pub raw_in : Env → Rows → Own → ℕ → ℕ → Route → Float
-raw_in t f s j lane r = read_in t f (field_own t s j 2 lane) lane r.source.read
+raw_in t f s j lane r = read_in t f (own_at t s j 2 lane) lane r.source.read
 
 -- a source with neither curve nor slew is scaled as it is read (engine.rs 1373-1384)
 abbrev pub sourced : Env → Rows → Own → ℕ → ℕ → Route → Float

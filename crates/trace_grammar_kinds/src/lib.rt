@@ -475,7 +475,7 @@ pub fn is_fit(kind: Kind, w: &[u8]) -> bool
     }
 }
 
-// What comes after a word of a kind, by number (specs/Kinds.antt, classOf)
+// What comes after a word of a kind, by number (specs/Kinds.antt, class_of)
 pub fn class_of(kind: Kind) -> u8
     ensures { result ≡ class_of kind }
 {

@@ -5,4 +5,4 @@ use borrow.Author.Rules.{rules}
 use Rattle.trace_grammar_kinds.proofs.is_up_to.Goals as goal
 
 pub returns : goal.returns
-returns c = ap (λ (x : WholeWord). x.good) c.IsWhole-to.ensures
+returns c = ap (λ (x : WholeWord). x.good) c.whole_to-n.ensures
