@@ -10,7 +10,7 @@ use borrow.Author.Rules.{rules}
 use Rattle.plan_sweep.proofs.added.Given as goal
 
 abbrev pub invariant-loop-j : goal.invariant-loop-j
-invariant-loop-j l = (l.j ≤ l.count) × ((l : ℕ) → l < lanes → at l.out l ≡ swept l.starts l.steps l.gains l.samples l.first l.frame (l.lane + l) (at l.initial.out l) l.j)
+invariant-loop-j v = (v.j ≤ v.count) × ((l : ℕ) → l < lanes → at v.out l ≡ swept v.starts v.steps v.gains v.samples v.first v.frame (v.lane + l) (at v.initial.out l) v.j)
 
 abbrev pub decreases-loop-j : goal.decreases-loop-j
-decreases-loop-j l = l.count - l.j
+decreases-loop-j v = v.count - v.j

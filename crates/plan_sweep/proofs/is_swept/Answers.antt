@@ -29,8 +29,8 @@ returns-then-not-is_number c = λ h. never h
 pub returns : goal.returns
 returns c = λ h.
     record {
-      on = was-true refl (ap not c.if-not-field.false;)
-      voice = was-true refl (ap not c.if-not-plan.false;)
+      on = was-true refl c.if-not-field.false;
+      voice = was-true refl c.if-not-plan.false;
       some = positive _ c.if-count-eq0.false;
       routes = omega (arith, c.if-first-count.false, c.if-first-gt-SLOTS.false);
       number = c.is_number.ensures (was-true refl (ap not c.if-not-is_number.false));

@@ -17,4 +17,4 @@ pub returns-then-slot-ge-SLOTS : goal.returns-then-slot-ge-SLOTS
 returns-then-slot-ge-SLOTS c = λ h. absurd (omega arith)
 
 pub returns : goal.returns
-returns c = λ h. (was-true refl (ap not c.if-not-route.false), omega arith, omega arith, c.part_step.ensures h)
+returns c = λ h. (was-true refl c.if-not-route.false, omega arith, omega arith, c.part_step.ensures h)

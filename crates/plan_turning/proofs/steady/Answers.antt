@@ -11,4 +11,4 @@ pub returns-then-not-tick : goal.returns-then-not-tick
 returns-then-not-tick c = λ h. never h
 
 pub returns : goal.returns
-returns c = λ h. (was-true refl (ap not c.if-not-tick.false), quiet h)
+returns c = λ h. (was-true refl c.if-not-tick.false, quiet h)
