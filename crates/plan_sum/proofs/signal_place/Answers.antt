@@ -1,11 +1,9 @@
 -- `plan_sum::signal_place` meets its contract.
 use mathlib.Core.Bool.{not}
-use borrow.Author.Rules.{rules}
-use mathlib.Core.Path.{◌≡◌, refl, sym, ap, ◌∙◌}
-use Prim.Native.Nat.{ℕ, ◌+◌, ◌-◌, ◌*◌, ◌≤◌, ◌<◌}
+use mathlib.Core.Path.{refl, ap, ◌∙◌}
+use Prim.Native.Nat.{◌+◌, ◌*◌, ◌≤◌}
 use native.Mathlib.Omega.{arith}
-use borrow.Author.Tests.{leb-true, lt-leb, lt-ltb, le-ltb}
-use Rattle.lane_input.proofs.Tests.{was-true, was-false}
+use Rattle.lane_input.proofs.Tests.{was-true}
 use Rattle.plan_sum.proofs.Places.{row_below, sample-at}
 use Rattle.plan_sum.proofs.signal_place.Goals as goal
 

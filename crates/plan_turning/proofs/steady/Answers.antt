@@ -1,6 +1,4 @@
 -- `plan_turning::steady` meets its contract.
-use mathlib.Core.Path.{ap}
-use mathlib.Core.Bool.{not}
 use mathlib.Core.Path.{refl}
 use Rattle.lane_input.proofs.Tests.{was-true}
 use Rattle.plan_sweep.proofs.Kept.{never}
@@ -11,4 +9,4 @@ pub returns-then-not-tick : goal.returns-then-not-tick
 returns-then-not-tick c = λ h. never h
 
 pub returns : goal.returns
-returns c = λ h. (was-true refl (ap not c.if-not-tick.false), quiet h)
+returns c = λ h. (was-true refl c.if-not-tick.false, quiet h)
