@@ -7,10 +7,10 @@ ghost use Rattle.std.specs.Prelude.{◌≤◌, length};
 use config::{Config, SLOTS};
 use curve_table::{Curve, POINTS};
 use engine::Engine;
-use libc::STDOUT_FILENO;
 use matrix::{NoteSlot, SortBy};
 use slots_tables::{KEY_PLACE, TABLES};
 use state::{Aim, Matrix, Pick, Polarity, Program, Slot};
+use std::io::Stdout;
 
 // the largest number, the least that is beyond 16, 16, and what is not finite
 const LARGEST: u32 = 0x7F7F_FFFF;
@@ -28,10 +28,11 @@ const VELOCITY_END: usize = KEY_PLACE * POINTS - 1;
 
 const KEY_END: usize = TABLES - 1;
 
-fn say(what: &[u8], code: u8) {
-    io::write_all(STDOUT_FILENO, what);
-    io::print_decimal(STDOUT_FILENO, code as u64);
-    io::write_all(STDOUT_FILENO, b"\n");
+fn say(stdout: Stdout, what: &[u8], code: u8) {
+    let mut to = stdout;
+    streams::write(&mut to, what);
+    streams::write_decimal(&mut to, code as u64);
+    streams::write(&mut to, b"\n");
 }
 
 // ---- matrices
@@ -75,26 +76,31 @@ fn sorted(m: Matrix, tables: &mut [f32]) -> u8 {
 }
 
 // a matrix that is loaded, and then sorted
-fn both(what: &[u8], m: Matrix, tables: &mut [f32], others: &[f32]) {
-    io::write_all(STDOUT_FILENO, what);
-    say(b" load ", loaded(m, tables, others));
-    io::write_all(STDOUT_FILENO, what);
-    say(b" sort ", sorted(m, tables));
+fn both(stdout: Stdout, what: &[u8], m: Matrix, tables: &mut [f32], others: &[f32]) {
+    let mut to = stdout;
+    streams::write(&mut to, what);
+    say(stdout, b" load ", loaded(m, tables, others));
+    streams::write(&mut to, what);
+    say(stdout, b" sort ", sorted(m, tables));
 }
 
 // the same, with tables of its own
-fn alone(what: &[u8], m: Matrix) {
+fn alone(stdout: Stdout, what: &[u8], m: Matrix) {
     let mut tables = [0.0f32; TABLES];
     let others = [0.0f32; TABLES];
-    both(what, m, &mut tables, &others);
+    both(stdout, what, m, &mut tables, &others);
 }
 
-fn slots() {
-    alone(b"largest", last_slot(LARGEST, LARGEST, LARGEST, LARGEST));
-    alone(b"amount", last_slot(INFINITE, 0, 0, 0));
-    alone(b"output", last_slot(0, NOT_A_NUMBER, 0, 0));
-    alone(b"rise", last_slot(0, 0, INFINITE, 0));
-    alone(b"fall", last_slot(0, 0, 0, NOT_A_NUMBER));
+fn slots(stdout: Stdout) {
+    alone(
+        stdout,
+        b"largest",
+        last_slot(LARGEST, LARGEST, LARGEST, LARGEST),
+    );
+    alone(stdout, b"amount", last_slot(INFINITE, 0, 0, 0));
+    alone(stdout, b"output", last_slot(0, NOT_A_NUMBER, 0, 0));
+    alone(stdout, b"rise", last_slot(0, 0, INFINITE, 0));
+    alone(stdout, b"fall", last_slot(0, 0, 0, NOT_A_NUMBER));
 }
 
 // a matrix whose velocity curve is the table at its place
@@ -127,27 +133,40 @@ fn most(numbers: &[f32], n: usize) -> usize
 }
 
 // the first `len` numbers of both memories
-fn part(what: &[u8], len: usize, tables: &mut [f32], others: &[f32]) {
+fn part(stdout: Stdout, what: &[u8], len: usize, tables: &mut [f32], others: &[f32]) {
     let a = most(tables, len);
     let b = most(others, len);
-    both(what, velocity(), &mut tables[0..a], &others[0..b]);
+    both(stdout, what, velocity(), &mut tables[0..a], &others[0..b]);
 }
 
 // with a number at a place of both
-fn put(what: &[u8], at: usize, bits: u32, len: usize) {
+fn put(stdout: Stdout, what: &[u8], at: usize, bits: u32, len: usize) {
     let mut tables = [0.0f32; TABLES];
     let mut others = [0.0f32; TABLES];
     store(&mut tables, at, bits);
     store(&mut others, at, bits);
-    part(what, len, &mut tables, &others);
+    part(stdout, what, len, &mut tables, &others);
 }
 
-fn named() {
-    put(b"16 in a named table", VELOCITY_END, SIXTEEN, TABLES);
-    put(b"beyond 16 in it", VELOCITY_END, BEYOND, TABLES);
-    put(b"beyond 16 in another", KEY_END, BEYOND, TABLES);
-    put(b"16, one number short", VELOCITY_END, SIXTEEN, KEY_END);
+fn named(stdout: Stdout) {
     put(
+        stdout,
+        b"16 in a named table",
+        VELOCITY_END,
+        SIXTEEN,
+        TABLES,
+    );
+    put(stdout, b"beyond 16 in it", VELOCITY_END, BEYOND, TABLES);
+    put(stdout, b"beyond 16 in another", KEY_END, BEYOND, TABLES);
+    put(
+        stdout,
+        b"16, one number short",
+        VELOCITY_END,
+        SIXTEEN,
+        KEY_END,
+    );
+    put(
+        stdout,
         b"beyond 16, one number short",
         VELOCITY_END,
         BEYOND,
@@ -193,15 +212,24 @@ fn swapped(p: Program) -> u8 {
     done.code
 }
 
-fn programs() {
-    say(b"swap largest ", swapped(program(1, LARGEST, LARGEST)));
-    say(b"swap amount ", swapped(program(1, INFINITE, 0)));
-    say(b"swap output ", swapped(program(1, 0, NOT_A_NUMBER)));
+fn programs(stdout: Stdout) {
     say(
+        stdout,
+        b"swap largest ",
+        swapped(program(1, LARGEST, LARGEST)),
+    );
+    say(stdout, b"swap amount ", swapped(program(1, INFINITE, 0)));
+    say(
+        stdout,
+        b"swap output ",
+        swapped(program(1, 0, NOT_A_NUMBER)),
+    );
+    say(
+        stdout,
         b"swap output, other voices ",
         swapped(program(2, 0, INFINITE)),
     );
-    say(b"swap other voices ", swapped(program(2, 0, 0)));
+    say(stdout, b"swap other voices ", swapped(program(2, 0, 0)));
 }
 
 // ---- curves
@@ -214,15 +242,15 @@ fn slewed(rise: u32, fall: u32) -> u8 {
     made.code
 }
 
-fn curves() {
-    say(b"slew largest ", slewed(LARGEST, LARGEST));
-    say(b"slew rise ", slewed(INFINITE, 0));
-    say(b"slew fall ", slewed(0, NOT_A_NUMBER));
+fn curves(stdout: Stdout) {
+    say(stdout, b"slew largest ", slewed(LARGEST, LARGEST));
+    say(stdout, b"slew rise ", slewed(INFINITE, 0));
+    say(stdout, b"slew fall ", slewed(0, NOT_A_NUMBER));
 }
 
-fn main() {
-    slots();
-    named();
-    programs();
-    curves();
+fn main(rt: HostRuntime) {
+    slots(rt.stdout());
+    named(rt.stdout());
+    programs(rt.stdout());
+    curves(rt.stdout());
 }

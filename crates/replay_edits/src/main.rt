@@ -5,9 +5,11 @@
 mod calls;
 mod slots;
 
-use libc::STDOUT_FILENO;
 use slots::WIDTH;
 use state::{Matrix, Slot};
+use std::fs;
+use std::fs::File;
+use std::io::Stdout;
 
 // how many differences are printed
 const SHOWN: u64 = 5;
@@ -70,17 +72,18 @@ fn is_stored(a: calls::Answered, line: &[u8], theirs: Matrix) -> bool {
     slots::same_matrix(ours, theirs)
 }
 
-fn show(shown: u64, number: u64, line: &[u8]) {
+fn show(stdout: Stdout, shown: u64, number: u64, line: &[u8]) {
     if shown < SHOWN {
-        io::write_all(STDOUT_FILENO, b"answer ");
-        io::print_decimal(STDOUT_FILENO, number);
-        io::write_all(STDOUT_FILENO, b" differs: ");
-        io::write_all(STDOUT_FILENO, line);
+        let mut to = stdout;
+        streams::write(&mut to, b"answer ");
+        streams::write_decimal(&mut to, number);
+        streams::write(&mut to, b" differs: ");
+        streams::write(&mut to, line);
     }
 }
 
 // With a line: the call is made, and its answer compared. After a difference the Rust's matrix is taken over.
-fn step(t: Tally, line: &[u8]) -> Tally {
+fn step(stdout: Stdout, t: Tally, line: &[u8]) -> Tally {
     let ours = t.ours;
     let before = t.theirs;
     let theirs = after(before, line);
@@ -95,7 +98,7 @@ fn step(t: Tally, line: &[u8]) -> Tally {
             differ: t.differ,
         };
     }
-    show(t.differ, answers, line);
+    show(stdout, t.differ, answers, line);
     Tally {
         ours: theirs,
         theirs,
@@ -105,11 +108,11 @@ fn step(t: Tally, line: &[u8]) -> Tally {
 }
 
 // the whole lines of a block
-fn steps(before: Tally, s: &[u8]) -> Tally {
+fn steps(stdout: Stdout, before: Tally, s: &[u8]) -> Tally {
     let mut t = before;
     let mut at = 0usize;
     while WIDTH <= s.len() - at {
-        let next = step(t, &s[at..at + WIDTH]);
+        let next = step(stdout, t, &s[at..at + WIDTH]);
         t = next;
         at += WIDTH;
     }
@@ -119,35 +122,39 @@ fn steps(before: Tally, s: &[u8]) -> Tally {
 // ---- the list
 
 // The next block of the list, 303 lines.
-fn next_block(fd: i32, t: Tally) -> Tally {
+fn next_block(stdout: Stdout, file: &mut File, t: Tally) -> Tally {
     let mut block = [0u8; 65448];
-    let n = io::read_full(fd, &mut block);
-    steps(t, &block[..n])
+    let n = streams::read(file, &mut block);
+    steps(stdout, t, &block[..n])
 }
 
 // A list of at most so many blocks.
-fn replay(fd: i32) -> Tally {
+fn replay(stdout: Stdout, file: &mut File) -> Tally {
     let mut t = start();
     let mut k = 0usize;
     while k < BLOCKS {
-        let next = next_block(fd, t);
+        let next = next_block(stdout, file, t);
         t = next;
         k += 1usize;
     }
     t
 }
 
-fn main() {
-    let fd = os::open_read(b"edits.txt");
-    if fd < 0 {
-        os::fail(b"edits.txt");
-        return;
+fn print(stdout: Stdout, t: Tally) {
+    let mut to = stdout;
+    streams::write(&mut to, b"edits: ");
+    streams::write_decimal(&mut to, t.answers);
+    streams::write(&mut to, b" answers, ");
+    streams::write_decimal(&mut to, t.differ);
+    streams::write(&mut to, b" differ\n");
+}
+
+fn main(rt: HostRuntime) {
+    match fs::open(&rt, "edits.txt") {
+        Ok(mut file) => print(rt.stdout(), replay(rt.stdout(), &mut file)),
+        Err(error) => {
+            let mut to = rt.stderr();
+            streams::write_failure(&mut to, "edits.txt", error);
+        }
     }
-    let t = replay(fd);
-    libc::close(fd);
-    io::write_all(STDOUT_FILENO, b"edits: ");
-    io::print_decimal(STDOUT_FILENO, t.answers);
-    io::write_all(STDOUT_FILENO, b" answers, ");
-    io::print_decimal(STDOUT_FILENO, t.differ);
-    io::write_all(STDOUT_FILENO, b" differ\n");
 }
