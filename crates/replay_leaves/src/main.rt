@@ -4,13 +4,14 @@
 
 ghost use Rattle.std.specs.Prelude.{◌≡◌, ◌*◌, ◌≤◌, length};
 ghost use Rattle.curve_table.specs.Table.{points};
-ghost use Rattle.io.specs.Counts.{IsPrefixLen};
 
 mod lines;
 
 use curve_table::POINTS;
-use libc::STDOUT_FILENO;
 use lines::Answers;
+use std::fs::File;
+use std::io::Stdout;
+use std::{fs, io};
 
 // the numbers of the three tables
 const TABLES: usize = 3 * POINTS;
@@ -18,34 +19,40 @@ const TABLES: usize = 3 * POINTS;
 // the most blocks of a list
 const BLOCKS: usize = 64;
 
+// says why a file cannot be read
+fn tell(rt: HostRuntime, path: &str, error: io::Error) {
+    let mut to = rt.stderr();
+    streams::write_failure(&mut to, path, error);
+}
+
 // the bytes of a file that fit the buffer; none where it cannot be read
-fn load(path: &[u8], buf: &mut [u8]) -> usize
-    ensures { IsPrefixLen result buf.new }
+fn load(rt: HostRuntime, path: &str, buf: &mut [u8]) -> usize
+    ensures { result ≤ length buf.new }
 {
-    let fd = os::open_read(path);
-    if fd < 0 {
-        os::fail(path);
-        return 0;
+    match fs::open(&rt, path) {
+        Ok(mut file) => streams::read(&mut file, buf),
+        Err(error) => {
+            tell(rt, path, error);
+            0
+        }
     }
-    let n = io::read_full(fd, buf);
-    libc::close(fd);
-    n
 }
 
-fn print(name: &[u8], lines: usize, differ: usize) {
-    io::write_all(STDOUT_FILENO, name);
-    io::print_decimal(STDOUT_FILENO, lines as u64);
-    io::write_all(STDOUT_FILENO, b" lines, ");
-    io::print_decimal(STDOUT_FILENO, differ as u64);
-    io::write_all(STDOUT_FILENO, b" differ\n");
+fn print(stdout: Stdout, name: &[u8], lines: usize, differ: usize) {
+    let mut to = stdout;
+    streams::write(&mut to, name);
+    streams::write_decimal(&mut to, lines as u64);
+    streams::write(&mut to, b" lines, ");
+    streams::write_decimal(&mut to, differ as u64);
+    streams::write(&mut to, b" differ\n");
 }
 
-fn tables() -> [f32; TABLES]
+fn tables(rt: HostRuntime) -> [f32; TABLES]
     ensures { 3 * points ≡ length result }
 {
     let mut text = [0u8; 65536];
     let mut out = [0.0f32; TABLES];
-    let n = load(b"tables.txt", &mut text);
+    let n = load(rt, "tables.txt", &mut text);
     lines::numbers(&text[..n], &mut out);
     out
 }
@@ -58,12 +65,12 @@ struct Tally {
 }
 
 // The next block of a list. A block holds whole lines of every width.
-fn next_block(fd: i32, list: Answers, tables: &[f32]) -> Tally
+fn next_block(file: &mut File, list: Answers, tables: &[f32]) -> Tally
     requires { 3 * points ≤ length tables.now }
     ensures { (result.bytes ≤ 65205) × (result.differ ≤ 65205) }
 {
     let mut block = [0u8; 65205];
-    let n = io::read_full(fd, &mut block);
+    let n = streams::read(file, &mut block);
     Tally {
         bytes: n,
         differ: lines::count(list, tables, &block[..n]),
@@ -71,32 +78,36 @@ fn next_block(fd: i32, list: Answers, tables: &[f32]) -> Tally
 }
 
 // A list of at most so many blocks.
-fn replay(list: Answers, tables: &[f32], path: &[u8], name: &[u8])
+fn replay_file(stdout: Stdout, list: Answers, tables: &[f32], file: &mut File, name: &[u8])
     requires { 3 * points ≤ length tables.now }
 {
-    let fd = os::open_read(path);
-    if fd < 0 {
-        os::fail(path);
-        return;
-    }
     let w = lines::width(list);
     let mut bytes = 0usize;
     let mut differ = 0usize;
     let mut k = 0usize;
     while k < BLOCKS {
-        let block = next_block(fd, list, tables);
+        let block = next_block(file, list, tables);
         bytes += block.bytes;
         differ += block.differ;
         k += 1usize;
     }
-    libc::close(fd);
-    print(name, bytes / w, differ);
+    print(stdout, name, bytes / w, differ);
 }
 
-fn main() {
-    let t = tables();
-    replay(Answers::Lookup, &t, b"lookup.txt", b"lookup: ");
-    replay(Answers::Rate, &t, b"rate.txt", b"rate: ");
-    replay(Answers::Slew, &t, b"slew.txt", b"slew: ");
-    replay(Answers::Draw, &t, b"draw.txt", b"draw: ");
+// The list of a file.
+fn replay(rt: HostRuntime, list: Answers, tables: &[f32], path: &str, name: &[u8])
+    requires { 3 * points ≤ length tables.now }
+{
+    match fs::open(&rt, path) {
+        Ok(mut file) => replay_file(rt.stdout(), list, tables, &mut file, name),
+        Err(error) => tell(rt, path, error),
+    }
+}
+
+fn main(rt: HostRuntime) {
+    let t = tables(rt);
+    replay(rt, Answers::Lookup, &t, "lookup.txt", b"lookup: ");
+    replay(rt, Answers::Rate, &t, "rate.txt", b"rate: ");
+    replay(rt, Answers::Slew, &t, "slew.txt", b"slew: ");
+    replay(rt, Answers::Draw, &t, "draw.txt", b"draw: ");
 }

@@ -3,6 +3,8 @@
 
 ghost use Rattle.std.specs.Prelude.{◌+◌, ◌<◌, ◌≤◌, length};
 
+use std::io::Read;
+
 // `last`: nothing comes after these bytes. `failed`: because the input can't be read. `inside`: they belong to a line that has
 // been answered. `number`: how many lines began before them.
 #[derive(Clone, Copy)]
@@ -100,18 +102,20 @@ fn over(r: Reader, failed: bool) -> Reader {
 }
 
 // with what one more read brings
-fn read_more(fd: i32, buffer: &mut [u8], r: Reader) -> Reader {
+fn read_more<R: Read>(from: &mut R, buffer: &mut [u8], r: Reader) -> Reader {
     let end = r.end;
     if buffer.len() <= end {
         return over(r, false);
     }
-    let got = libc::read(fd, &mut buffer[end..]);
-    if got <= 0 {
-        return over(r, got < 0);
+    match from.read(&mut buffer[end..]) {
+        Ok(0) => over(r, false),
+        Ok(n) => {
+            let mut next = r;
+            next.end = end + n;
+            next
+        }
+        Err(_) => over(r, true),
     }
-    let mut next = r;
-    next.end = end + io::count(got, &buffer[end..]);
-    next
 }
 
 fn fewer(left: usize, ready: bool) -> usize
@@ -125,11 +129,11 @@ fn fewer(left: usize, ready: bool) -> usize
 }
 
 // reads until a line feed is ahead, or the buffer is full, or nothing more comes: no more often than there are bytes to fill, and once more
-fn read_line(fd: i32, buffer: &mut [u8], r: Reader) -> Reader {
+fn read_line<R: Read>(from: &mut R, buffer: &mut [u8], r: Reader) -> Reader {
     let mut next = r;
     let mut left = 18446744073709551615usize;
     while 0 < left {
-        let more = read_more(fd, buffer, next);
+        let more = read_more(from, buffer, next);
         next = more;
         left = fewer(left, is_ready(buffer, next));
     }
@@ -137,12 +141,12 @@ fn read_line(fd: i32, buffer: &mut [u8], r: Reader) -> Reader {
 }
 
 // the reader with a whole line ahead, or a full buffer, or the last bytes
-fn ready(fd: i32, buffer: &mut [u8], r: Reader) -> Reader {
+fn ready<R: Read>(from: &mut R, buffer: &mut [u8], r: Reader) -> Reader {
     if is_ready(buffer, r) {
         return r;
     }
     let low = lowered(buffer, r);
-    read_line(fd, buffer, low)
+    read_line(from, buffer, low)
 }
 
 // past the line that ends at `stop`; where there is no line feed there, its rest is still to be passed over
@@ -215,9 +219,9 @@ fn ahead_of(r: Reader, stop: usize) -> Coming {
     }
 }
 
-// what comes next of the file fd
-pub fn ahead(fd: i32, buffer: &mut [u8], r: Reader) -> Coming {
-    let next = ready(fd, buffer, r);
+// what comes next of what is read
+pub fn ahead<R: Read>(from: &mut R, buffer: &mut [u8], r: Reader) -> Coming {
+    let next = ready(from, buffer, r);
     let stop = line_end(buffer, next.start, next.end);
     ahead_of(next, stop)
 }

@@ -7,13 +7,13 @@ ghost use Rattle.std.specs.Prelude.{◌≡◌, ◌+◌, ◌<◌, ◌≤◌, leng
 ghost use Rattle.trace_output_show.specs.Feeds.{feeds_of};
 ghost use Rattle.trace_output_show.specs.Glyphs.{glyph_of, glyphs_of};
 
-use libc::STDOUT_FILENO;
+mod ending;
+
+pub use ending::status;
+use std::io::Stdout;
 
 // How many bytes at the end of a buffer are no room for text.
 const KEPT: usize = 16;
-
-// The descriptor on which a program says how it ended.
-const STATUS_FILENO: i32 = 3;
 
 // how many bytes of text a buffer has room for
 fn room(out: &[u8]) -> usize
@@ -122,19 +122,20 @@ fn keep(out: &mut [u8], good: bool, n: u64) {
 }
 
 // writes bytes, unless a write has failed; whether that was done
-fn write(lost: bool, s: &[u8]) -> bool {
+fn write(stdout: Stdout, lost: bool, s: &[u8]) -> bool {
     if lost {
         return false;
     }
-    io::write_all(STDOUT_FILENO, s)
+    let mut to = stdout;
+    streams::write_all(&mut to, s)
 }
 
 // writes what is collected
-pub fn flush(out: &mut [u8], at: usize) {
+pub fn flush(stdout: Stdout, out: &mut [u8], at: usize) {
     if out.len() < at {
         return;
     }
-    let good = write(is_lost(out), &out[0..at]);
+    let good = write(stdout, is_lost(out), &out[0..at]);
     let n = feeds(&out[0..at]);
     keep(out, good, n);
 }
@@ -152,9 +153,9 @@ fn copy(out: &mut [u8], at: usize, s: &[u8])
 }
 
 // the bytes, at the start
-fn put_first(out: &mut [u8], s: &[u8]) -> usize {
+fn put_first(stdout: Stdout, out: &mut [u8], s: &[u8]) -> usize {
     if room(out) < s.len() {
-        let good = write(is_lost(out), s);
+        let good = write(stdout, is_lost(out), s);
         keep(out, good, feeds(s));
         return 0;
     }
@@ -163,24 +164,23 @@ fn put_first(out: &mut [u8], s: &[u8]) -> usize {
 }
 
 // the bytes
-pub fn put(out: &mut [u8], at: usize, s: &[u8]) -> usize {
+pub fn put(stdout: Stdout, out: &mut [u8], at: usize, s: &[u8]) -> usize {
     let most = room(out);
     if most < at {
-        return put_first(out, s);
+        return put_first(stdout, out, s);
     }
     if s.len() <= most - at {
         copy(out, at, s);
         return at + s.len();
     }
-    flush(out, at);
-    put_first(out, s)
+    flush(stdout, out, at);
+    put_first(stdout, out, s)
 }
 
 // a whole number, decimal
-pub fn whole(out: &mut [u8], at: usize, n: u64) -> usize {
-    let mut text = [0u8; 20];
-    let k = io::decimal(n, &mut text);
-    put(out, at, &text[..k])
+pub fn whole(stdout: Stdout, out: &mut [u8], at: usize, n: u64) -> usize {
+    let mut text = itoa::Buffer::new();
+    put(stdout, out, at, text.format(n).as_bytes())
 }
 
 // the digit of the lowest four bits, in upper case
@@ -211,42 +211,42 @@ fn digits(n: u32) -> [u8; 8]
 }
 
 // the bits of a number, as eight hexadecimal digits; a NaN's are 7FC00000
-pub fn float(out: &mut [u8], at: usize, x: f32) -> usize {
+pub fn float(stdout: Stdout, out: &mut [u8], at: usize, x: f32) -> usize {
     let d = digits(hex_words::bits_of(x));
-    put(out, at, &d)
+    put(stdout, out, at, &d)
 }
 
 // 1 or 0
-pub fn flag(out: &mut [u8], at: usize, on: bool) -> usize {
+pub fn flag(stdout: Stdout, out: &mut [u8], at: usize, on: bool) -> usize {
     if on {
-        return put(out, at, b"1");
+        return put(stdout, out, at, b"1");
     }
-    put(out, at, b"0")
+    put(stdout, out, at, b"0")
 }
 
 // the first text, or the second
-pub fn either(out: &mut [u8], at: usize, first: bool, a: &[u8], b: &[u8]) -> usize {
+pub fn either(stdout: Stdout, out: &mut [u8], at: usize, first: bool, a: &[u8], b: &[u8]) -> usize {
     if first {
-        return put(out, at, a);
+        return put(stdout, out, at, a);
     }
-    put(out, at, b)
+    put(stdout, out, at, b)
 }
 
 // ---- a name, and what stands after it
 
-pub fn whole_after(out: &mut [u8], at: usize, name: &[u8], n: u64) -> usize {
-    let p = put(out, at, name);
-    whole(out, p, n)
+pub fn whole_after(stdout: Stdout, out: &mut [u8], at: usize, name: &[u8], n: u64) -> usize {
+    let p = put(stdout, out, at, name);
+    whole(stdout, out, p, n)
 }
 
-pub fn float_after(out: &mut [u8], at: usize, name: &[u8], x: f32) -> usize {
-    let p = put(out, at, name);
-    float(out, p, x)
+pub fn float_after(stdout: Stdout, out: &mut [u8], at: usize, name: &[u8], x: f32) -> usize {
+    let p = put(stdout, out, at, name);
+    float(stdout, out, p, x)
 }
 
-pub fn flag_after(out: &mut [u8], at: usize, name: &[u8], on: bool) -> usize {
-    let p = put(out, at, name);
-    flag(out, p, on)
+pub fn flag_after(stdout: Stdout, out: &mut [u8], at: usize, name: &[u8], on: bool) -> usize {
+    let p = put(stdout, out, at, name);
+    flag(stdout, out, p, on)
 }
 
 // ---- a word of the input
@@ -286,22 +286,22 @@ fn shown(w: &[u8], n: usize) -> [u8; SHOWN]
 }
 
 // a word between quotes: at most 40 bytes of it, and two points where there are more
-pub fn quoted(out: &mut [u8], at: usize, w: &[u8]) -> usize {
+pub fn quoted(stdout: Stdout, out: &mut [u8], at: usize, w: &[u8]) -> usize {
     let n = least(w.len(), SHOWN);
     let cell = shown(w, n);
-    let p = put(out, at, b"'");
-    let q = put(out, p, &cell[0..n]);
-    either(out, q, n < w.len(), b"..'", b"'")
+    let p = put(stdout, out, at, b"'");
+    let q = put(stdout, out, p, &cell[0..n]);
+    either(stdout, out, q, n < w.len(), b"..'", b"'")
 }
 
 // ---- how a program ends
 
 // The last line of a trace: how many lines were printed before it.
-pub fn end(out: &mut [u8], at: usize) {
+pub fn end(stdout: Stdout, out: &mut [u8], at: usize) {
     let n = lines(out, at);
-    let p = whole_after(out, at, b"END ", n);
-    let q = put(out, p, b" lines\n");
-    flush(out, q);
+    let p = whole_after(stdout, out, at, b"END ", n);
+    let q = put(stdout, out, p, b" lines\n");
+    flush(stdout, out, q);
 }
 
 // how many lines have been printed, those that wait included
@@ -310,10 +310,4 @@ fn lines(out: &[u8], at: usize) -> u64 {
         return written(out);
     }
     std::num::wrapping_add_u64(written(out), feeds(&out[0..at]))
-}
-
-// Says on descriptor 3 how the program ended: a digit and a line feed. Where that is not open nothing is said.
-pub fn status(digit: u8) {
-    let text = [48 + digit % 10, 10];
-    io::write_all(STATUS_FILENO, &text);
 }

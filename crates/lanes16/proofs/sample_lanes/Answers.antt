@@ -9,7 +9,6 @@ use lib.Ieee.{nan}
 use Rattle.model.specs.Env.{sample_in}
 use Rattle.lane_input.proofs.Tests.{was-true, was-false}
 use Rattle.lanes16.proofs.Samples.{sample-all}
-use borrow.Author.Rules.{rules}
 use Rattle.lanes16.proofs.sample_lanes.Goals as goal
 
 pub returns-then-not-voice : goal.returns-then-not-voice

@@ -1,12 +1,9 @@
 -- `plan_sweep::added` meets its contract. The invariant: the routes before j are added.
-use mathlib.Core.Path.{◌≡◌, refl, ap, ◌∙◌}
+use mathlib.Core.Path.{◌≡◌}
 use Prim.Native.Nat.{ℕ, ◌+◌, ◌-◌, ◌≤◌, ◌<◌}
-use native.Mathlib.Omega.{arith}
 use Rattle.config.specs.Sizes.{lanes}
 use Rattle.model.specs.Counts.{at}
 use Rattle.plan_sweep.specs.Sweep.{swept}
-use Rattle.plan_sweep.proofs.Laws.{reach, swept_none, swept-more}
-use borrow.Author.Rules.{rules}
 use Rattle.plan_sweep.proofs.added.Given as goal
 
 abbrev pub invariant-loop-j : goal.invariant-loop-j

@@ -1,11 +1,10 @@
 -- `plan_sweep::is_swept` meets its contract.
 use mathlib.Core.Path.{ap}
 use mathlib.Core.Bool.{not}
-use mathlib.Core.Path.{◌≡◌, refl}
+use mathlib.Core.Path.{refl}
 use native.Mathlib.Omega.{arith}
 use Rattle.lane_input.proofs.Tests.{was-true}
 use Rattle.plan_sweep.proofs.Kept.{never, positive}
-use borrow.Author.Rules.{rules}
 use Rattle.plan_sweep.proofs.is_swept.Goals as goal
 
 pub returns-then-not-field : goal.returns-then-not-field

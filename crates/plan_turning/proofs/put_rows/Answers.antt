@@ -6,7 +6,6 @@ use native.Mathlib.Omega.{arith}
 use Rattle.lane_input.proofs.Tests.{was-true}
 use Rattle.plan_turning.specs.Turns.{sum_at}
 use Rattle.plan_turning.proofs.Rows.{rows_next, rows-kept}
-use borrow.Author.Rules.{rules}
 use Rattle.plan_turning.proofs.put_rows.Goals as goal
 
 pub returns-then-tick-gt0 : goal.returns-then-tick-gt0

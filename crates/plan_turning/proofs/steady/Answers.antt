@@ -1,6 +1,4 @@
 -- `plan_turning::steady` meets its contract.
-use mathlib.Core.Path.{ap}
-use mathlib.Core.Bool.{not}
 use mathlib.Core.Path.{refl}
 use Rattle.lane_input.proofs.Tests.{was-true}
 use Rattle.plan_sweep.proofs.Kept.{never}

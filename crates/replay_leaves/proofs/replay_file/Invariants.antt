@@ -1,8 +1,8 @@
--- `replay_leaves::replay` meets its contract: 64 blocks of 65,205 bytes are counted without wrapping.
+-- `replay_leaves::replay_file` meets its contract: 64 blocks of 65,205 bytes are counted without wrapping.
 use Prim.Native.Nat.{◌≤◌, ◌<◌, ◌-◌, ◌*◌}
 use native.Mathlib.Omega.{arith}
 use borrow.Author.Rules.{rules}
-use Rattle.replay_leaves.proofs.replay.Given as goal
+use Rattle.replay_leaves.proofs.replay_file.Given as goal
 
 abbrev pub invariant-loop-k : goal.invariant-loop-k
 invariant-loop-k l = (l.k ≤ 64) × (l.bytes ≤ 65205 * l.k) × (l.differ ≤ 65205 * l.k) × (0 < l.w)
