@@ -3,7 +3,6 @@ use borrow.Author.Tests.{not-true, not-false}
 use Rattle.model.specs.States.{with_draw}
 use Rattle.block.proofs.Steps.{keeps_self}
 use Rattle.block.proofs.Blocks.{drawn-not, drawn-is, drawn-keeps}
-use borrow.Author.Rules.{rules}
 use Rattle.block.proofs.drawn.Goals as goal
 
 pub returns-then-not-marks : goal.returns-then-not-marks

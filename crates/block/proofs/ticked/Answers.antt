@@ -2,7 +2,6 @@
 use borrow.Author.Tests.{not-true, not-false}
 use Rattle.model.specs.States.{with_primed}
 use Rattle.block.proofs.Steps.{keeps_self, ticked-not, ticked-is, primed-keeps}
-use borrow.Author.Rules.{rules}
 use Rattle.block.proofs.ticked.Goals as goal
 
 pub returns-then-not-chunk : goal.returns-then-not-chunk
