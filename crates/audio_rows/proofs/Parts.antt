@@ -25,7 +25,7 @@ use Rattle.model.specs.Tick.{mix_width, fill_from, lanes_from, rows_of, own_of}
 use Rattle.model.proofs.FillFrom.{fill-length, fill-same}
 use Rattle.lane_input.proofs.Numbers.{product-bound}
 use Rattle.plan_sweep.specs.declared.Pass.{Pass}
-use Rattle.plan_sweep.specs.Sweep.{swept, swept_at, swept_row, swept_rows}
+use Rattle.plan_sweep.specs.Sweep.{swept_at, swept_row, swept_rows}
 use Rattle.audio_rows.specs.Rows.{sounds, width_at, row_frame, row_frames}
 
 -- ---- where the part lies

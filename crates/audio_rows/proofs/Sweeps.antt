@@ -17,10 +17,9 @@ use Rattle.state.specs.declared.Plan.{Plan}
 use Rattle.state.specs.declared.Route.{Route}
 use Rattle.state.specs.declared.State.{State}
 use Rattle.model.specs.Audio.{Sounds, new_audio, row_start, at_frame, audio_frames, audio_plans}
-use Rattle.model.specs.Counts.{stride_of, frame_count, plan_at, route_at, at}
+use Rattle.model.specs.Counts.{stride_of, plan_at, route_at, at}
 use Rattle.model.specs.Env.{Env, Rows, Own, gain_of}
 use Rattle.model.specs.Layout.{plan_width, audio_row}
-use Rattle.model.specs.Lanes.{in_span}
 use Rattle.model.specs.Mix.{Mix, plan_mix}
 use Rattle.model.specs.RouteValue.{raw_in, plain}
 use Rattle.model.specs.Sums.{base_in, offsets, scaled_gain, plains}

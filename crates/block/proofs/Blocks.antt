@@ -1,14 +1,14 @@
 -- The block, from what its parts ensure. Assumes nothing.
 use mathlib.Core.Path.{◌≡◌, refl, sym, ap, ◌∙◌}
 use mathlib.Core.Logic.{◌≢◌}
-use mathlib.Core.Bool.{Bool, true, false, cond, ◌&&◌}
+use mathlib.Core.Bool.{true, false, cond}
 use mathlib.Core.List.{List}
-use Prim.Native.Nat.{ℕ, zero, suc, ◌+◌, ◌-◌, ◌*◌, ◌%◌, ◌≤◌, ◌<◌, min}
+use Prim.Native.Nat.{ℕ, zero, suc, ◌+◌, ◌-◌, ◌*◌, ◌%◌, ◌≤◌, ◌<◌}
 use native.Mathlib.Omega.{arith}
 use borrow.Author.Tests.{ne_eqb, lt-ltb, le-ltb}
 use lib.Dec.{eqb}
 use lib.Ieee.{Float}
-use Rattle.config.specs.Sizes.{slots, most_chunks, period}
+use Rattle.config.specs.Sizes.{most_chunks}
 use Rattle.voice.specs.declared.Marks.{Marks}
 use Rattle.voice.specs.Marks.{marks_cleared}
 use Rattle.state.specs.declared.Block.{Block}
@@ -20,7 +20,7 @@ use Rattle.model.specs.Counts.{voice_count, frame_count, stride_of, chunks_most,
 use Rattle.model.specs.World.{World, world_of}
 use Rattle.model.specs.States.{with_marks, with_draw, with_phase, with_block, put_state, put_globals, put_values}
 use Rattle.model.specs.Chunks.{chunk_total, chunk_of}
-use Rattle.model.specs.Process.{Drawn, values_of, loaded, drawn, put_drawn, glided, chunk_step, chunk_steps, closed, block_of, no_block, over_range}
+use Rattle.model.specs.Process.{Drawn, values_of, put_drawn, chunk_step, chunk_steps, block_of, over_range}
 use Rattle.model.specs.Need.{values_rows}
 use Rattle.block_chunks.proofs.Chunks.{inside}
 use Rattle.block_opening.specs.declared.Lengths.{Lengths}

@@ -1,6 +1,6 @@
 -- A chunk of a block whose plans all have audio and are swept, from what its parts ensure. Assumes nothing.
 use mathlib.Core.Path.{◌≡◌, refl, sym, ap, ◌∙◌, subst}
-use mathlib.Core.Bool.{Bool, true, false, cond, ◌&&◌}
+use mathlib.Core.Bool.{Bool, true, false, cond}
 use mathlib.Core.List.{List}
 use Prim.Native.Nat.{ℕ, ◌+◌, ◌-◌, ◌*◌, ◌≤◌, ◌<◌}
 use native.Mathlib.Nat.{le_refl}
@@ -16,14 +16,14 @@ use Rattle.model.specs.Audio.{audio_of}
 use Rattle.model.specs.Chunks.{chunk_total, chunk_of}
 use Rattle.model.specs.Counts.{voice_count, frame_count, stride_of, engine_sources, control_total}
 use Rattle.model.specs.Env.{Env}
-use Rattle.model.specs.Process.{rows_of_chunk, glided, ticked, rowed, sounded, snap_at, chunk_step, chunk_steps}
+use Rattle.model.specs.Process.{rows_of_chunk, glided, ticked, rowed, snap_at, chunk_step, chunk_steps}
 use Rattle.model.specs.States.{with_velocity, with_key, with_primed, put_values}
 use Rattle.model.specs.Tick.{turns, tick_of}
 use Rattle.model.specs.World.{World, world_of, is_velocity, is_key}
 use Rattle.block_opening.specs.Marks.{moved_if}
 use Rattle.audio_rows.specs.declared.Sweeping.{Sweeping}
 use Rattle.audio_rows.specs.declared.Work.{Work}
-use Rattle.audio_rows.specs.Passes.{ReadyBy, PreparedBy, Only}
+use Rattle.audio_rows.specs.Passes.{ReadyBy, PreparedBy}
 use Rattle.audio_rows.specs.Rows.{sounds}
 use Rattle.audio_rows.specs.Work.{Sized, audio_room, Installed, work_env}
 use Rattle.audio_rows.proofs.Sweeps.{ready-sooner, prepared-sooner}

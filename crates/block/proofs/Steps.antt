@@ -2,32 +2,28 @@
 use mathlib.Core.Path.{◌≡◌, refl, sym, ap, ◌∙◌}
 use mathlib.Core.Bool.{Bool, true, false, cond, ◌&&◌}
 use mathlib.Core.List.{List}
-use Prim.Native.Nat.{ℕ, ◌+◌, ◌*◌, ◌%◌, ◌≤◌, ◌<◌, min}
+use Prim.Native.Nat.{ℕ, ◌+◌, ◌*◌, ◌≤◌, ◌<◌, min}
 use native.Mathlib.Omega.{arith}
 use mathlib.Core.Logic.{◌≢◌}
 use borrow.Author.Tests.{ne_eqb}
 use lib.Dec.{eqb}
 use lib.Ieee.{Float}
-use Rattle.config.specs.Sizes.{slots, most_frames, period}
-use Rattle.voice.specs.declared.Marks.{Marks}
+use Rattle.config.specs.Sizes.{period}
 use Rattle.voice.specs.declared.Notes.{Notes}
 use Rattle.voice.specs.Notes.{advanced}
-use Rattle.voice.specs.Marks.{marks_cleared}
-use Rattle.state.specs.declared.Block.{Block}
 use Rattle.state.specs.declared.Chunk.{Chunk}
 use Rattle.state.specs.declared.Signals.{Signals}
 use Rattle.state.specs.declared.State.{State}
-use Rattle.model.specs.Counts.{voice_count, frame_count, stride_of, chunks_most, engine_sources, plan_total, control_total, route_total}
+use Rattle.model.specs.Counts.{voice_count, frame_count, stride_of, chunks_most, engine_sources, plan_total, route_total}
 use Rattle.model.specs.World.{World, world_of, is_velocity, is_key}
-use Rattle.model.specs.States.{with_marks, with_velocity, with_key, with_phase, with_block, with_primed, put_state, put_held, put_values, put_audio}
+use Rattle.model.specs.States.{with_velocity, with_key, with_primed, put_state, put_held, put_values, put_audio}
 use Rattle.number.specs.Number.{zero32, nearest32}
 use Rattle.model.specs.Layout.{plan_size}
 use Rattle.model.specs.Tick.{off_phase, tick_of}
-use Rattle.model.specs.Audio.{Sounds, audio_of}
-use Rattle.model.specs.Process.{values_of, env_of, glided, ticked, rowed, put_sounds, sounded, snap_at, after_tick, chunk_step, closed}
+use Rattle.model.specs.Audio.{audio_of}
+use Rattle.model.specs.Process.{values_of, glided, ticked, rowed, put_sounds, sounded, snap_at, chunk_step}
 use Rattle.lane_input.specs.declared.Scene.{Scene}
 use Rattle.lane_input.specs.Scene.{env_of as sceneEnv}
-use Rattle.plan_sum.specs.Job.{IsScene}
 use Rattle.control_tick.specs.Turn.{Given, IsTick}
 use Rattle.plan_slews.specs.Seen.{Fits}
 use Rattle.audio_rows.specs.declared.Work.{Work}

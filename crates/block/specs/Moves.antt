@@ -1,5 +1,5 @@
 -- What moves from chunk to chunk of a block whose plans all have audio and are swept. Definitions only.
-use Rattle.std.specs.Prelude.{false, ℕ, ◌-◌}
+use Rattle.std.specs.Prelude.{false, ◌-◌}
 use Rattle.state.specs.declared.Block.{Block}
 use Rattle.state.specs.declared.Chunk.{Chunk}
 use Rattle.state.specs.declared.State.{State}

@@ -19,7 +19,7 @@ use Rattle.state_filled.specs.Filled.{no_route}
 use Rattle.list.proofs.Elements.{get_or-inside}
 use Rattle.model.specs.Counts.{voice_count, stride_of, chunks_most, plan_total, route_at}
 use Rattle.model.specs.Need.{values_rows}
-use Rattle.model.specs.Layout.{Sizes, of_route, random, values, route_random}
+use Rattle.model.specs.Layout.{Sizes, of_route, random, route_random}
 use Rattle.model.proofs.LayoutHolds.{parts-inside}
 use Rattle.model.specs.Process.{Drawn, draw_voices, random_start, draw_read, draw_aux, draw_routes}
 use Rattle.block_opening.specs.Draws.{draw_after, drawn_voices, drawn_read, drawn_aux, drawn_route, drawn_routes}

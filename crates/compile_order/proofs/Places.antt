@@ -1,6 +1,6 @@
 -- The order of numbered things is that of their places, also where a number stands more than once: the first of those to take is taken by its number
 -- and by its place. Assumes nothing.
-use mathlib.Core.Path.{◌≡◌, refl, sym, ap, ◌∙◌}
+use mathlib.Core.Path.{◌≡◌, refl, sym, ap, ◌∙◌, subst}
 use mathlib.Core.Logic.{◌⊎◌, inl, inr}
 use mathlib.Core.Bool.{Bool, true, false, not, ◌&&◌, and-false}
 use mathlib.Core.List.{List, [], ◌∷◌, map}
@@ -79,7 +79,7 @@ module _ (f : ℕ → ℕ) where
             let k : In w (free feeds l) = rw e (omega (arith, hit_same w)) in
             let r = free-from feeds l w k in
             let pw : not (fed_by feeds l w) ≡ true = ap not r.1 in
-            rw first
+            subst (λ (x : ℕ). remove (f x) (map f l) ≡ map f (remove x l)) (sym first)
             (remove-told (λ b. not (fed_by feeds l b)) (λ b. not (fed_by feeds' (map f l) b)) u w l (freed l tells) pw (freed l tells w r.0 ∙ pw) (sym first))
 
     greedy-told : (k : ℕ) (l : List ℕ) → length l ≡ k → Tells f feeds feeds' l → greedy feeds' k (map f l) ≡ map f (greedy feeds k l)

@@ -6,7 +6,6 @@ use Rattle.state.specs.declared.Route.{Route}
 use Rattle.model.specs.Env.{Env}
 use Rattle.model.specs.Lanes.{worked}
 use Rattle.model.specs.Mix.{Mix}
-use Rattle.model.specs.RouteValue.{idle, plain}
 use Rattle.model.specs.Slews.{moves_in}
 use Rattle.plan_slews.specs.declared.Motion.{Motion}
 use Rattle.plan_slews.specs.Seen.{Moved}

@@ -1,5 +1,5 @@
 -- What the routes of a job are worked out from, the lanes that they are added in, and where a plain route's numbers stand. Definitions only.
-use Rattle.std.specs.Prelude.{◌≡◌, Bool, true, false, cond, ◌&&◌, List, ℕ, ◌+◌, ◌/◌, ◌≤◌, ◌<◌, ltb, leb, length, get_or, Float}
+use Rattle.std.specs.Prelude.{◌≡◌, false, cond, ◌&&◌, List, ℕ, ◌+◌, ◌/◌, ◌≤◌, ◌<◌, ltb, leb, length, get_or, Float}
 use Rattle.config.specs.Sizes.{slots, most_sources, lanes}
 use Rattle.state.specs.declared.Aux.{Aux}
 use Rattle.state.specs.declared.Aux.TheVariants as X

@@ -1,6 +1,6 @@
 -- What each route is swept by, as it is found route by route, and that it is what the model reads. Assumes nothing.
-use mathlib.Core.Path.{◌≡◌, refl, sym, ap, ap₂, ◌∙◌, subst}
-use mathlib.Core.Bool.{Bool, true, false, cond, ◌&&◌}
+use mathlib.Core.Path.{◌≡◌, refl, sym, ap, ◌∙◌, subst}
+use mathlib.Core.Bool.{Bool, true, false, ◌&&◌}
 use mathlib.Core.Logic.{⊎_elim}
 use mathlib.Core.List.{List}
 use Prim.Native.Nat.{ℕ, zero, suc, ◌+◌, ◌-◌, ◌*◌, ◌/◌, ◌≤◌, ◌<◌}
@@ -14,7 +14,7 @@ use lib.ListN.{length, get_or, set, length-set, replicate}
 use lib.Seq.{get_or-set_same, get_or-set_other}
 use lib.Ieee.{Float, nan, eq, is_nan}
 use lib.Ieee as I
-use Rattle.config.specs.Sizes.{slots, most_sources, lanes}
+use Rattle.config.specs.Sizes.{slots, most_sources}
 use Rattle.number.specs.Number.{zero32, plus, times}
 use Rattle.list.proofs.Rows.{row_inside}
 use Rattle.state_filled.specs.Filled.{no_route}
@@ -31,7 +31,6 @@ use Rattle.model.specs.Input.{read_in}
 use Rattle.model.specs.Lanes.{in_span, sounding}
 use Rattle.model.specs.RouteValue.{whole_row}
 use Rattle.plan_sweep.specs.declared.Field.{Field}
-use Rattle.plan_sweep.specs.declared.Pass.{Pass}
 use Rattle.plan_sweep.specs.Leads.{row_key, Moves, Lead, Led, leads_of, Leading, Blank, offset_sum, pass_of, Fielded}
 
 -- ---- tests

@@ -1,21 +1,20 @@
 -- Sixteen lanes at a time make a row, and rows the rows of a chunk. Assumes nothing.
-use mathlib.Core.Path.{◌≡◌, refl, sym, ap, ap₂, ◌∙◌}
+use mathlib.Core.Path.{◌≡◌, refl, ap, ap₂, ◌∙◌}
 use mathlib.Core.Bool.{Bool, true, false, cond, ◌||◌}
 use mathlib.Core.Logic.{inr}
 use mathlib.Core.List.{List}
 use Prim.Native.Nat.{ℕ, zero, suc, ◌+◌, ◌*◌, ◌≤◌, ◌<◌}
-use native.Mathlib.Nat.{add-mul, mul-le-mul_right, mul-le-mul_left}
+use native.Mathlib.Nat.{add-mul, mul-le-mul_right}
 use native.Mathlib.Numerals.{add-one}
 use native.Mathlib.Omega.{arith}
 use lib.ListN.{length, get_or, set}
 use lib.Ieee.{Float, is_nan, lt}
-use Rattle.config.specs.Sizes.{slots, lanes}
+use Rattle.config.specs.Sizes.{lanes}
 use Rattle.number.specs.Number.{plus, times, max32, min32, hold}
-use Rattle.list.proofs.Rows.{row_inside}
 use Rattle.model.specs.Counts.{at}
 use Rattle.model.specs.RouteValue.{is_zero}
 use Rattle.model.specs.Tick.{fill_from}
-use Rattle.model.proofs.FillFrom.{fill-same, fill-length, fill-outside}
+use Rattle.model.proofs.FillFrom.{fill-same, fill-outside}
 use Rattle.plan_sweep.specs.declared.Pass.{Pass}
 use Rattle.plan_sweep.specs.Sweep.{swept_step, place_of, swept, start_at, held_by, swept_row, swept_rows, some_row, some_rows, Within}
 

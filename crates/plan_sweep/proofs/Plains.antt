@@ -23,7 +23,7 @@ use Rattle.model.specs.Mix.{Mix}
 use Rattle.model.specs.RouteValue.{is_zero, source_in, aux_in, raw_in, whole_row, plain}
 use Rattle.model.specs.Routes.{free_slew}
 use Rattle.model.specs.Slews.{aux_slew, source_after, aux_after}
-use Rattle.model.specs.Sums.{base_in, offsets, some_plain, all_plain, scaled_gain, plains, has_plain, others, audio_begun, audio_sum}
+use Rattle.model.specs.Sums.{base_in, offsets, some_plain, all_plain, scaled_gain, plains, others, audio_begun, audio_sum}
 use Rattle.model.specs.Tick.{fill_from, own_start, put_slews, slew_after}
 use Rattle.model.proofs.FillFrom.{fill-outside, fill-same, fill-self}
 use Rattle.plan_sum.specs.Job.{base_by}

@@ -28,7 +28,6 @@ use Rattle.model.specs.Sums.{base_in, offsets, scaled_gain, plains, begun, tick_
 use Rattle.model.specs.Tick.{mix_width, new_to, new_from, fill_from, lanes_from, from_start, to_start, own_start, rows_of, own_of, put_slews, slew_after, turn, turns}
 use Rattle.model.proofs.FillFrom.{fill-outside}
 use Rattle.plan_slews.specs.Seen.{Ticks}
-use Rattle.plan_sweep.specs.declared.Field.{Field}
 use Rattle.plan_sweep.specs.declared.Pass.{Pass}
 use Rattle.plan_sweep.specs.Leads.{Lead, offset_sum, Fielded, Swept}
 use Rattle.plan_sweep.specs.Sweep.{place_of, swept, Within}

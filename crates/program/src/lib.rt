@@ -190,19 +190,19 @@ pub fn compile(
         (record { matrix = matrix; sources = sources; dests = dests; config = config })
         matrix_tables.now
         (record {
-          values = values.entry.now;
+          values = values.old;
           audio = audio.old;
           tables = tables.old;
         })).answer }
     ensures lent { record {
-      values = values.exit.now;
+      values = values.new;
       audio = audio.new;
       tables = tables.new;
     }
         ≡ (compile (record { matrix = matrix; sources = sources; dests = dests; config = config })
         matrix_tables.now
         (record {
-          values = values.entry.now;
+          values = values.old;
           audio = audio.old;
           tables = tables.old;
         })).lent }

@@ -1,4 +1,4 @@
--- What `standardSources` does: refused by a row, or all entries since none applies. Assumes nothing.
+-- What `standard_sources` does: refused by a row, or all entries since none applies. Assumes nothing.
 use mathlib.Core.Path.{◌≡◌, refl}
 use mathlib.Core.Bool.{Bool, true, false, cond}
 use mathlib.Core.List.{List}

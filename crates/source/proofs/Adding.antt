@@ -1,4 +1,4 @@
--- What `addSource` does: a refusal leaves the registry; an accepted entry stands after the others, and its key is found there.
+-- What `add_source` does: a refusal leaves the registry; an accepted entry stands after the others, and its key is found there.
 -- Assumes nothing.
 use mathlib.Core.Path.{◌≡◌, refl, ap, ◌∙◌}
 use mathlib.Core.Bool.{Bool, true, false, cond}

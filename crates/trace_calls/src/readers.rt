@@ -2,6 +2,7 @@
 use crate::setters::tables_lent;
 use engine::{Done, Engine};
 use state::Signals;
+use std::io::Stdout;
 use trace_grammar::Reading;
 use trace_print_report::{How, Print, Told};
 use trace_setup_lending::{FROM, POOL_FULL, pool_top};
@@ -197,6 +198,7 @@ fn failed(code: u8, at: usize) -> Told {
 
 // the outputs, audio rows by words 1 and 2
 pub fn outputs(
+    stdout: Stdout,
     e: Engine,
     line: &[u8],
     book: &[usize],
@@ -207,6 +209,7 @@ pub fn outputs(
 ) -> Told {
     let w = trace_input_words::pair(line);
     trace_print_report::outputs(
+        stdout,
         e,
         trace_store_book::get(book, DESTS),
         values_lent(values, book),
@@ -221,6 +224,7 @@ pub fn outputs(
 
 // `out [START END]`
 fn on_out(
+    stdout: Stdout,
     e: Engine,
     line: &[u8],
     n: usize,
@@ -231,15 +235,16 @@ fn on_out(
     at: usize,
 ) -> Told {
     if n == 1 {
-        return outputs(e, b"out 0 0", book, values, audio, out, at);
+        return outputs(stdout, e, b"out 0 0", book, values, audio, out, at);
     }
-    outputs(e, line, book, values, audio, out, at)
+    outputs(stdout, e, line, book, values, audio, out, at)
 }
 
 // ---- single numbers
 
 // `latest DEST VOICE`
 fn on_latest(
+    stdout: Stdout,
     e: Engine,
     line: &[u8],
     book: &[usize],
@@ -250,7 +255,7 @@ fn on_latest(
 ) -> Told {
     let w = trace_input_words::pair(line);
     let answer = e.latest(values_lent(values, book), audio_lent(audio, book), w.a, w.b);
-    trace_print_report::latest(answer, w.a, w.b, is_canon(book), out, at)
+    trace_print_report::latest(stdout, answer, w.a, w.b, is_canon(book), out, at)
 }
 
 fn fill(numbers: &mut [f32], x: f32) {
@@ -262,6 +267,7 @@ fn fill(numbers: &mut [f32], x: f32) {
 }
 
 fn all_in(
+    stdout: Stdout,
     e: Engine,
     voices: usize,
     each: usize,
@@ -279,7 +285,7 @@ fn all_in(
         voices,
         all,
     );
-    trace_print_report::latest_all(code, voices, each, all, is_canon(book), out, at)
+    trace_print_report::latest_all(stdout, code, voices, each, all, is_canon(book), out, at)
 }
 
 // how many numbers there are for so many voices; more than there can be where a count is past the core's
@@ -295,6 +301,7 @@ fn count_of(voices: usize, each: usize) -> usize {
 
 // `latest_all VOICES ROWS`
 fn on_latest_all(
+    stdout: Stdout,
     e: Engine,
     line: &[u8],
     book: &[usize],
@@ -312,6 +319,7 @@ fn on_latest_all(
     }
     let to = from + n;
     all_in(
+        stdout,
         e,
         w.a,
         w.b,
@@ -325,6 +333,7 @@ fn on_latest_all(
 }
 
 fn ramp_in(
+    stdout: Stdout,
     e: Engine,
     dest: usize,
     voice: usize,
@@ -335,11 +344,12 @@ fn ramp_in(
     at: usize,
 ) -> Told {
     let answer = e.ramp(values_lent(values, book), dest, voice, row);
-    trace_print_report::ramp(answer, dest, voice, row, is_canon(book), out, at)
+    trace_print_report::ramp(stdout, answer, dest, voice, row, is_canon(book), out, at)
 }
 
 // `ramp DEST VOICE`
 fn on_ramp(
+    stdout: Stdout,
     e: Engine,
     line: &[u8],
     book: &[usize],
@@ -355,27 +365,38 @@ fn on_ramp(
         return failed(POOL_FULL, at);
     }
     let to = from + trace_store_book::lent(book, OUT, have);
-    ramp_in(e, w.a, w.b, book, values, &mut pool[from..to], out, at)
+    ramp_in(
+        stdout,
+        e,
+        w.a,
+        w.b,
+        book,
+        values,
+        &mut pool[from..to],
+        out,
+        at,
+    )
 }
 
 // `is_active VOICE`
-fn on_is_active(e: Engine, line: &[u8], out: &mut [u8], at: usize) -> Told {
+fn on_is_active(stdout: Stdout, e: Engine, line: &[u8], out: &mut [u8], at: usize) -> Told {
     let v = trace_input_words::number_at(line, 1);
-    trace_print_report::is_active(e.is_active(v), v, out, at)
+    trace_print_report::is_active(stdout, e.is_active(v), v, out, at)
 }
 
 // `rate DEST`
-fn on_rate(e: Engine, line: &[u8], out: &mut [u8], at: usize) -> Told {
+fn on_rate(stdout: Stdout, e: Engine, line: &[u8], out: &mut [u8], at: usize) -> Told {
     let d = trace_input_words::number_at(line, 1);
     failed(
         0,
-        trace_print_report::rate(program::rate(e.program(), d), d, out, at),
+        trace_print_report::rate(stdout, program::rate(e.program(), d), d, out, at),
     )
 }
 
 // ---- all of it
 
 fn named_memory(
+    stdout: Stdout,
     e: Engine,
     name: &[u8],
     book: &[usize],
@@ -387,6 +408,7 @@ fn named_memory(
     let state = e.state();
     let program = state.program;
     trace_print_kept::memory(
+        stdout,
         program,
         state.primed,
         name,
@@ -400,6 +422,7 @@ fn named_memory(
 
 // `memory`
 pub fn on_memory(
+    stdout: Stdout,
     e: Engine,
     book: &[usize],
     values: &[f32],
@@ -412,7 +435,7 @@ pub fn on_memory(
     let m = trace_store_book::at_most(n, 64);
     failed(
         0,
-        named_memory(e, &cell[0..m], book, values, audio, out, at),
+        named_memory(stdout, e, &cell[0..m], book, values, audio, out, at),
     )
 }
 
@@ -425,6 +448,7 @@ fn globals_part(desk: &[f32]) -> &[f32] {
 
 // `state`
 pub fn on_state(
+    stdout: Stdout,
     e: Engine,
     book: &[usize],
     desk: &[f32],
@@ -435,6 +459,7 @@ pub fn on_state(
     failed(
         0,
         trace_print_kept::state(
+            stdout,
             e.state(),
             desk,
             globals_part(desk),
@@ -448,6 +473,7 @@ pub fn on_state(
 
 // a line of n words that prints what the engine answers
 pub fn reader_line(
+    stdout: Stdout,
     e: Engine,
     c: Reading,
     line: &[u8],
@@ -460,11 +486,11 @@ pub fn reader_line(
     at: usize,
 ) -> Told {
     match c {
-        Reading::Out => on_out(e, line, n, book, values, audio, out, at),
-        Reading::Latest => on_latest(e, line, book, values, audio, out, at),
-        Reading::LatestAll => on_latest_all(e, line, book, values, audio, pool, out, at),
-        Reading::Ramp => on_ramp(e, line, book, values, pool, out, at),
-        Reading::IsActive => on_is_active(e, line, out, at),
-        Reading::Rate => on_rate(e, line, out, at),
+        Reading::Out => on_out(stdout, e, line, n, book, values, audio, out, at),
+        Reading::Latest => on_latest(stdout, e, line, book, values, audio, out, at),
+        Reading::LatestAll => on_latest_all(stdout, e, line, book, values, audio, pool, out, at),
+        Reading::Ramp => on_ramp(stdout, e, line, book, values, pool, out, at),
+        Reading::IsActive => on_is_active(stdout, e, line, out, at),
+        Reading::Rate => on_rate(stdout, e, line, out, at),
     }
 }

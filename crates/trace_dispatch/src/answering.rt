@@ -1,6 +1,7 @@
 // The lines about an engine, and every line.
 use engine::{Done, Engine};
 use state::Program;
+use std::io::Stdout;
 use trace_grammar::{Command, Line, Reading, Setting};
 use trace_lines_answer::Hand;
 use trace_lines_stage::{After, State};
@@ -14,6 +15,7 @@ fn on_setting(
     h: Hand,
     c: Setting,
     line: &[u8],
+    stdout: Stdout,
     out: &mut [u8],
     book: &[usize],
     desk: &mut [f32],
@@ -24,7 +26,7 @@ fn on_setting(
     let engine = d.engine;
     let mut next = s;
     next.engine = engine;
-    next.at = trace_lines_answer::told(d.code, h.number, out, h.at);
+    next.at = trace_lines_answer::told(stdout, d.code, h.number, out, h.at);
     next.code = trace_lines_answer::after(s.code, d.code);
     next
 }
@@ -37,13 +39,14 @@ fn put_block(
     book: &[usize],
     values: &[f32],
     audio: &[f32],
+    stdout: Stdout,
     out: &mut [u8],
 ) -> usize {
     if d.code != 0 {
-        return trace_lines_answer::coded(d.code, h.number, out, h.at);
+        return trace_lines_answer::coded(stdout, d.code, h.number, out, h.at);
     }
     let e = d.engine;
-    trace_calls::outputs(e, line, book, values, audio, out, h.at).at
+    trace_calls::outputs(stdout, e, line, book, values, audio, out, h.at).at
 }
 
 fn with_block(
@@ -54,12 +57,13 @@ fn with_block(
     book: &[usize],
     values: &[f32],
     audio: &[f32],
+    stdout: Stdout,
     out: &mut [u8],
 ) -> State {
     let engine = d.engine;
     let mut next = s;
     next.engine = engine;
-    next.at = put_block(d, h, line, book, values, audio, out);
+    next.at = put_block(d, h, line, book, values, audio, stdout, out);
     next.code = trace_lines_answer::after(s.code, d.code);
     next
 }
@@ -69,6 +73,7 @@ fn on_process(
     s: State,
     h: Hand,
     line: &[u8],
+    stdout: Stdout,
     out: &mut [u8],
     book: &mut [usize],
     desk: &mut [f32],
@@ -79,12 +84,12 @@ fn on_process(
     let e = s.engine;
     let signals = s.signals;
     let d = trace_calls::process(e, signals, line, book, desk, values, audio, pool);
-    with_block(s, d, h, line, book, values, audio, out)
+    with_block(s, d, h, line, book, values, audio, stdout, out)
 }
 
-fn with_told(s: State, r: Told, number: u64, out: &mut [u8]) -> State {
+fn with_told(s: State, r: Told, number: u64, stdout: Stdout, out: &mut [u8]) -> State {
     let mut next = s;
-    next.at = trace_lines_answer::told(r.code, number, out, r.at);
+    next.at = trace_lines_answer::told(stdout, r.code, number, out, r.at);
     next.code = trace_lines_answer::after(s.code, r.code);
     next
 }
@@ -96,6 +101,7 @@ fn on_reading(
     c: Reading,
     line: &[u8],
     n: usize,
+    stdout: Stdout,
     out: &mut [u8],
     book: &[usize],
     values: &[f32],
@@ -103,14 +109,15 @@ fn on_reading(
     pool: &mut [f32],
 ) -> State {
     let e = s.engine;
-    let r = trace_calls::reader_line(e, c, line, n, book, values, audio, pool, out, h.at);
-    with_told(s, r, h.number, out)
+    let r = trace_calls::reader_line(stdout, e, c, line, n, book, values, audio, pool, out, h.at);
+    with_told(s, r, h.number, stdout, out)
 }
 
 // `state`
 fn on_state(
     s: State,
     h: Hand,
+    stdout: Stdout,
     out: &mut [u8],
     book: &[usize],
     desk: &[f32],
@@ -121,7 +128,7 @@ fn on_state(
     }
     let e = s.engine;
     let mut next = s;
-    next.at = trace_calls::on_state(e, book, desk, pool, out, h.at).at;
+    next.at = trace_calls::on_state(stdout, e, book, desk, pool, out, h.at).at;
     next
 }
 
@@ -129,6 +136,7 @@ fn on_state(
 fn on_memory(
     s: State,
     h: Hand,
+    stdout: Stdout,
     out: &mut [u8],
     book: &[usize],
     values: &[f32],
@@ -139,7 +147,7 @@ fn on_memory(
     }
     let e = s.engine;
     let mut next = s;
-    next.at = trace_calls::on_memory(e, book, values, audio, out, h.at).at;
+    next.at = trace_calls::on_memory(stdout, e, book, values, audio, out, h.at).at;
     next
 }
 
@@ -164,6 +172,7 @@ fn on_other(
     c: Command,
     n: usize,
     line: &[u8],
+    stdout: Stdout,
     out: &mut [u8],
     book: &mut [usize],
     desk: &mut [f32],
@@ -172,18 +181,20 @@ fn on_other(
     pool: &mut [f32],
 ) -> State {
     match c {
-        Command::Registry(r) => trace_lines_stage::on_registry(s, h, r, line, out, book),
+        Command::Registry(r) => trace_lines_stage::on_registry(s, h, r, line, stdout, out, book),
         Command::Editing(e) => {
-            trace_lines_stage::on_matrix(s, h, e, line, n, out, book, desk, audio)
+            trace_lines_stage::on_matrix(s, h, e, line, n, stdout, out, book, desk, audio)
         }
         Command::Making(_) => s,
-        Command::Lending(l) => trace_lines_stage::on_lending(s, h, l, line, n, out, book, pool),
-        Command::Setting(t) => on_setting(s, h, t, line, out, book, desk, pool),
-        Command::Process => on_process(s, h, line, out, book, desk, values, audio, pool),
-        Command::Reading(r) => on_reading(s, h, r, line, n, out, book, values, audio, pool),
-        Command::State => on_state(s, h, out, book, desk, pool),
-        Command::Memory => on_memory(s, h, out, book, values, audio),
-        Command::Standard => trace_lines_stage::on_standard(s, h, line, out, book),
+        Command::Lending(l) => trace_lines_stage::on_lending(
+            s, h, l, line, n, stdout, out, book, pool,
+        ),
+        Command::Setting(t) => on_setting(s, h, t, line, stdout, out, book, desk, pool),
+        Command::Process => on_process(s, h, line, stdout, out, book, desk, values, audio, pool),
+        Command::Reading(r) => on_reading(s, h, r, line, n, stdout, out, book, values, audio, pool),
+        Command::State => on_state(s, h, stdout, out, book, desk, pool),
+        Command::Memory => on_memory(s, h, stdout, out, book, values, audio),
+        Command::Standard => trace_lines_stage::on_standard(s, h, line, stdout, out, book),
     }
 }
 
@@ -196,6 +207,7 @@ fn on_call(
     c: Command,
     n: usize,
     line: &[u8],
+    stdout: Stdout,
     out: &mut [u8],
     book: &mut [usize],
     desk: &mut [f32],
@@ -204,10 +216,12 @@ fn on_call(
     pool: &mut [f32],
 ) -> After {
     let Command::Making(m) = c else {
-        let state = on_other(s, h, c, n, line, out, book, desk, values, audio, pool);
+        let state = on_other(
+            s, h, c, n, line, stdout, out, book, desk, values, audio, pool,
+        );
         return after(state, i, p);
     };
-    trace_lines_stage::on_whole(s, p, i, h, m, out, book, desk, values, audio, pool)
+    trace_lines_stage::on_whole(s, p, i, h, m, stdout, out, book, desk, values, audio, pool)
 }
 
 // The state after a line in hand. What it prints is appended to `out`. p is program i, which `number_of` answers.
@@ -217,6 +231,7 @@ pub fn on_line(
     i: usize,
     h: Hand,
     line: &[u8],
+    stdout: Stdout,
     out: &mut [u8],
     book: &mut [usize],
     desk: &mut [f32],
@@ -232,6 +247,6 @@ pub fn on_line(
         return after(s, i, p);
     };
     on_call(
-        s, p, i, h, command, words, line, out, book, desk, values, audio, pool,
+        s, p, i, h, command, words, line, stdout, out, book, desk, values, audio, pool,
     )
 }

@@ -9,6 +9,7 @@ pub use answering::on_line;
 use config::Config;
 use engine::Engine;
 use state::Program;
+use std::io::Stdout;
 use trace_lines_answer::Hand;
 use trace_lines_stage::State;
 
@@ -80,20 +81,21 @@ pub fn begun(
     all: bool,
     line: &[u8],
     book: &[usize],
+    stdout: Stdout,
     out: &mut [u8],
 ) -> Hand {
-    trace_lines_answer::begun(s.at, number, all, line, book, out)
+    trace_lines_answer::begun(s.at, number, all, line, book, stdout, out)
 }
 
 // The end of a session, whose input can't be read to its end where `failed` says so: the last line of its trace, and the digit that
 // says how it ended.
-pub fn end(s: State, failed: bool, number: u64, out: &mut [u8]) {
+pub fn end(s: State, failed: bool, number: u64, rt: HostRuntime, out: &mut [u8]) {
     let code = trace_lines_answer::unread(s.code, failed);
-    let at = trace_lines_answer::told(code, number, out, s.at);
-    trace_output_show::end(out, at);
+    let at = trace_lines_answer::told(rt.stdout(), code, number, out, s.at);
+    trace_output_show::end(rt.stdout(), out, at);
     let lost = trace_output_show::is_lost(out);
-    trace_output_show::status(trace_lines_answer::status(
-        trace_lines_answer::after(s.code, code),
-        lost,
-    ));
+    trace_output_show::status(
+        rt,
+        trace_lines_answer::status(trace_lines_answer::after(s.code, code), lost),
+    );
 }

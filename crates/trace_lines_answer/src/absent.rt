@@ -1,4 +1,5 @@
 // What a line names that is not there: an engine, a program, a table.
+use std::io::Stdout;
 use trace_grammar::{Command, Editing, Making};
 use trace_store_book::THERE;
 
@@ -166,15 +167,21 @@ pub fn of(c: Command, line: &[u8], book: &[usize]) -> Absent {
 }
 
 // What is said of it.
-pub fn put(a: Absent, line: &[u8], out: &mut [u8], at: usize) -> usize {
+pub fn put(stdout: Stdout, a: Absent, line: &[u8], out: &mut [u8], at: usize) -> usize {
     if a.code == NO_ENGINE {
-        return trace_output_show::put(out, at, b"there is no engine yet\n");
+        return trace_output_show::put(stdout, out, at, b"there is no engine yet\n");
     }
-    let p = trace_output_show::quoted(out, at, trace_input_session::part(line, a.at, a.end));
+    let p = trace_output_show::quoted(
+        stdout,
+        out,
+        at,
+        trace_input_session::part(line, a.at, a.end),
+    );
     if a.code == INSTALLED {
-        return trace_output_show::put(out, p, b" is installed\n");
+        return trace_output_show::put(stdout, out, p, b" is installed\n");
     }
     trace_output_show::either(
+        stdout,
         out,
         p,
         a.code == NO_TABLE,

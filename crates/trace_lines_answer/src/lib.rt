@@ -8,6 +8,7 @@ mod absent;
 mod faults;
 
 use absent::Absent;
+use std::io::Stdout;
 use trace_grammar::{Line, Registry};
 use trace_setup_preset::{LONG_TABLES, MANY_TABLES, NO_ENTRY, NONE};
 use trace_setup_roster::MANY_KEYS;
@@ -31,15 +32,23 @@ pub fn is_quiet(book: &[usize]) -> bool {
 }
 
 // the `@LINE word` above a line's answers
-fn head(number: u64, w: &[u8], out: &mut [u8], at: usize) -> usize {
-    let mut p = trace_output_show::whole_after(out, at, b"@", number);
-    p = trace_output_show::put(out, p, b" ");
-    p = trace_output_show::put(out, p, w);
-    trace_output_show::put(out, p, b"\n")
+fn head(stdout: Stdout, number: u64, w: &[u8], out: &mut [u8], at: usize) -> usize {
+    let mut p = trace_output_show::whole_after(stdout, out, at, b"@", number);
+    p = trace_output_show::put(stdout, out, p, b" ");
+    p = trace_output_show::put(stdout, out, p, w);
+    trace_output_show::put(stdout, out, p, b"\n")
 }
 
 // the same, where something stands there: nothing above a line `print`, and where no answers are printed
-fn headed(said: Line, number: u64, w: &[u8], book: &[usize], out: &mut [u8], at: usize) -> usize {
+fn headed(
+    stdout: Stdout,
+    said: Line,
+    number: u64,
+    w: &[u8],
+    book: &[usize],
+    out: &mut [u8],
+    at: usize,
+) -> usize {
     if !has_head(said) {
         return at;
     }
@@ -49,61 +58,71 @@ fn headed(said: Line, number: u64, w: &[u8], book: &[usize], out: &mut [u8], at:
     if is_quiet(book) {
         return at;
     }
-    head(number, w, out, at)
+    head(stdout, number, w, out, at)
 }
 
-fn numbered(name: &[u8], n: usize, out: &mut [u8], at: usize) -> usize {
-    let p = trace_output_show::whole_after(out, at, name, n as u64);
-    trace_output_show::put(out, p, b"\n")
+fn numbered(stdout: Stdout, name: &[u8], n: usize, out: &mut [u8], at: usize) -> usize {
+    let p = trace_output_show::whole_after(stdout, out, at, name, n as u64);
+    trace_output_show::put(stdout, out, p, b"\n")
 }
 
-fn found(n: usize, out: &mut [u8], at: usize) -> usize {
+fn found(stdout: Stdout, n: usize, out: &mut [u8], at: usize) -> usize {
     if n == NONE {
-        return trace_output_show::put(out, at, b"FIND none\n");
+        return trace_output_show::put(stdout, out, at, b"FIND none\n");
     }
-    numbered(b"FIND ", n, out, at)
+    numbered(stdout, b"FIND ", n, out, at)
 }
 
-fn configured(a: usize, b: usize, out: &mut [u8], at: usize) -> usize {
-    let p = trace_output_show::whole_after(out, at, b"CONFIG stride ", a as u64);
-    numbered(b" chunks ", b, out, p)
+fn configured(stdout: Stdout, a: usize, b: usize, out: &mut [u8], at: usize) -> usize {
+    let p = trace_output_show::whole_after(stdout, out, at, b"CONFIG stride ", a as u64);
+    numbered(stdout, b" chunks ", b, out, p)
 }
 
 // what a line about registries prints
-fn registered(c: Registry, a: usize, b: usize, out: &mut [u8], at: usize) -> usize {
+fn registered(stdout: Stdout, c: Registry, a: usize, b: usize, out: &mut [u8], at: usize) -> usize {
     match c {
-        Registry::Config => configured(a, b, out, at),
-        Registry::Source => numbered(b"SOURCE ", a, out, at),
-        Registry::Dest => numbered(b"DEST ", a, out, at),
+        Registry::Config => configured(stdout, a, b, out, at),
+        Registry::Source => numbered(stdout, b"SOURCE ", a, out, at),
+        Registry::Dest => numbered(stdout, b"DEST ", a, out, at),
         Registry::Newreg => at,
-        Registry::Find => found(a, out, at),
+        Registry::Find => found(stdout, a, out, at),
     }
 }
 
-fn large(code: u8, out: &mut [u8], at: usize) -> usize {
+fn large(stdout: Stdout, code: u8, out: &mut [u8], at: usize) -> usize {
     match code {
         MANY_TABLES => trace_output_show::put(
+            stdout,
             out,
             at,
             b"there are 128 tables, with names of at most 63 bytes\n",
         ),
         LONG_TABLES => trace_output_show::put(
+            stdout,
             out,
             at,
             b"there are 60,000 numbers for named tables\n",
         ),
         MANY_PROGRAMS => trace_output_show::put(
+            stdout,
             out,
             at,
             b"there are 9 programs, with names of at most 63 bytes\n",
         ),
-        LONG_LINE => trace_output_show::put(out, at, b"there are 65,536 bytes for a line\n"),
+        LONG_LINE => trace_output_show::put(
+            stdout,
+            out,
+            at,
+            b"there are 65,536 bytes for a line\n",
+        ),
         MANY_KEYS => trace_output_show::put(
+            stdout,
             out,
             at,
             b"there are 256 audio keys, of 8,192 bytes in all\n",
         ),
         _ => trace_output_show::put(
+            stdout,
             out,
             at,
             b"there are 125,000 numbers for values, 666,000 for audio rows, 750,976 for tables and samples\n",
@@ -111,30 +130,30 @@ fn large(code: u8, out: &mut [u8], at: usize) -> usize {
     }
 }
 
-fn error(code: u8, out: &mut [u8], at: usize) -> usize {
+fn error(stdout: Stdout, code: u8, out: &mut [u8], at: usize) -> usize {
     if code == NO_ENTRY {
-        return trace_output_show::put(out, at, b"the table has no such entry\n");
+        return trace_output_show::put(stdout, out, at, b"the table has no such entry\n");
     }
-    trace_output_show::put(out, at, b"the input can't be read\n")
+    trace_output_show::put(stdout, out, at, b"the input can't be read\n")
 }
 
 // what stands before the words by which the session ends at a line
-fn at_line(name: &[u8], number: u64, out: &mut [u8], at: usize) -> usize {
-    let p = trace_output_show::whole_after(out, at, name, number);
-    trace_output_show::put(out, p, b": ")
+fn at_line(stdout: Stdout, name: &[u8], number: u64, out: &mut [u8], at: usize) -> usize {
+    let p = trace_output_show::whole_after(stdout, out, at, name, number);
+    trace_output_show::put(stdout, out, p, b": ")
 }
 
 // The number by which a line was refused, or the words by which the session ends.
-pub fn coded(code: u8, number: u64, out: &mut [u8], at: usize) -> usize {
+pub fn coded(stdout: Stdout, code: u8, number: u64, out: &mut [u8], at: usize) -> usize {
     if code < 16 {
-        return numbered(b"REFUSED ", code as usize, out, at);
+        return numbered(stdout, b"REFUSED ", code as usize, out, at);
     }
     if code < MANY_TABLES {
-        let p = at_line(b"ERROR line ", number, out, at);
-        return error(code, out, p);
+        let p = at_line(stdout, b"ERROR line ", number, out, at);
+        return error(stdout, code, out, p);
     }
-    let p = at_line(b"TOO LARGE line ", number, out, at);
-    large(code, out, p)
+    let p = at_line(stdout, b"TOO LARGE line ", number, out, at);
+    large(stdout, code, out, p)
 }
 
 // ---- how a session ends
@@ -186,11 +205,11 @@ pub fn unread(code: u8, failed: bool) -> u8 {
 }
 
 // What a line that came to a code prints; nothing where that is 0
-pub fn told(code: u8, number: u64, out: &mut [u8], at: usize) -> usize {
+pub fn told(stdout: Stdout, code: u8, number: u64, out: &mut [u8], at: usize) -> usize {
     if code == 0 {
         return at;
     }
-    coded(code, number, out, at)
+    coded(stdout, code, number, out, at)
 }
 
 // ---- a line in hand
@@ -213,15 +232,16 @@ pub fn put_changed(
     a: usize,
     b: usize,
     book: &[usize],
+    stdout: Stdout,
     out: &mut [u8],
 ) -> usize {
     if code != 0 {
-        return coded(code, h.number, out, h.at);
+        return coded(stdout, code, h.number, out, h.at);
     }
     if is_quiet(book) {
         return h.at;
     }
-    registered(c, a, b, out, h.at)
+    registered(stdout, c, a, b, out, h.at)
 }
 
 // the code of a cut line whose error is at word n
@@ -272,12 +292,20 @@ fn has_head(said: Line) -> bool {
 }
 
 // the words by which a line ends the session
-fn stopped(code: u8, said: Line, number: u64, line: &[u8], out: &mut [u8], at: usize) -> usize {
+fn stopped(
+    stdout: Stdout,
+    code: u8,
+    said: Line,
+    number: u64,
+    line: &[u8],
+    out: &mut [u8],
+    at: usize,
+) -> usize {
     if code == LONG_LINE {
-        return coded(code, number, out, at);
+        return coded(stdout, code, number, out, at);
     }
-    let p = at_line(b"ERROR line ", number, out, at);
-    faults::put(said, line, out, p)
+    let p = at_line(stdout, b"ERROR line ", number, out, at);
+    faults::put(stdout, said, line, out, p)
 }
 
 // what a line without errors names that is not there
@@ -293,6 +321,7 @@ fn missed(code: u8, said: Line, line: &[u8], book: &[usize]) -> Absent {
 
 // what is said where a line ends the session: of its code, or of what is not there
 fn put_stop(
+    stdout: Stdout,
     code: u8,
     a: Absent,
     said: Line,
@@ -302,26 +331,34 @@ fn put_stop(
     at: usize,
 ) -> usize {
     if code != 0 {
-        return stopped(code, said, number, line, out, at);
+        return stopped(stdout, code, said, number, line, out, at);
     }
     if a.code == 0 {
         return at;
     }
-    let p = at_line(b"ERROR line ", number, out, at);
-    absent::put(a, line, out, p)
+    let p = at_line(stdout, b"ERROR line ", number, out, at);
+    absent::put(stdout, a, line, out, p)
 }
 
 // The line in hand, whole where `all` says so, once what stands above its answers is printed, and what ends the session
 // there.
-pub fn begun(at: usize, number: u64, all: bool, line: &[u8], book: &[usize], out: &mut [u8]) -> Hand
+pub fn begun(
+    at: usize,
+    number: u64,
+    all: bool,
+    line: &[u8],
+    book: &[usize],
+    stdout: Stdout,
+    out: &mut [u8],
+) -> Hand
     ensures { Begun line.now all result }
 {
     let said = trace_grammar::line_of(line);
     let w = trace_input_session::word(line, 0);
-    let p = headed(said, number, w, book, out, at);
+    let p = headed(stdout, said, number, w, book, out, at);
     let code = code_of(said, all);
     let a = missed(code, said, line, book);
-    let q = put_stop(code, a, said, number, line, out, p);
+    let q = put_stop(stdout, code, a, said, number, line, out, p);
     let ended = after(a.code, code);
     Hand {
         at: q,

@@ -4,6 +4,7 @@
 
 use engine::Engine;
 use state::{Program, Signals, Sources};
+use std::io::Stdout;
 use trace_grammar::{Editing, Lending, Making, Registry};
 use trace_lines_answer::Hand;
 use trace_programs::Whole;
@@ -45,6 +46,7 @@ pub fn on_registry(
     h: Hand,
     c: Registry,
     line: &[u8],
+    stdout: Stdout,
     out: &mut [u8],
     book: &mut [usize],
 ) -> State {
@@ -52,7 +54,7 @@ pub fn on_registry(
     let r = trace_setup_preset::registry_line(before, c, line);
     let preset = r.preset;
     trace_store_book::set(book, DESTS, trace_setup_preset::dests(preset));
-    let at = trace_lines_answer::put_changed(h, c, r.code, r.a, r.b, book, out);
+    let at = trace_lines_answer::put_changed(h, c, r.code, r.a, r.b, book, stdout, out);
     with_changed(s, r, at)
 }
 
@@ -63,6 +65,7 @@ pub fn on_matrix(
     c: Editing,
     line: &[u8],
     n: usize,
+    stdout: Stdout,
     out: &mut [u8],
     book: &mut [usize],
     desk: &mut [f32],
@@ -70,11 +73,18 @@ pub fn on_matrix(
 ) -> State {
     let before = s.preset;
     let r = trace_setup_preset::matrix_line(before, c, line, n, book, audio, desk);
-    let at = trace_lines_answer::told(r.code, h.number, out, h.at);
+    let at = trace_lines_answer::told(stdout, r.code, h.number, out, h.at);
     with_changed(s, r, at)
 }
 
-fn with_sources(s: State, sources: Sources, h: Hand, book: &[usize], out: &mut [u8]) -> State {
+fn with_sources(
+    s: State,
+    sources: Sources,
+    h: Hand,
+    book: &[usize],
+    stdout: Stdout,
+    out: &mut [u8],
+) -> State {
     let mut preset = s.preset;
     preset.sources = sources;
     let mut next = s;
@@ -83,44 +93,66 @@ fn with_sources(s: State, sources: Sources, h: Hand, book: &[usize], out: &mut [
     if trace_lines_answer::is_quiet(book) {
         return next;
     }
-    next.at = trace_setup_roster::put(sources, out, h.at);
+    next.at = trace_setup_roster::put(stdout, sources, out, h.at);
     next
 }
 
 // The standard sources in place of those registered
-pub fn on_standard(s: State, h: Hand, line: &[u8], out: &mut [u8], book: &[usize]) -> State {
+pub fn on_standard(
+    s: State,
+    h: Hand,
+    line: &[u8],
+    stdout: Stdout,
+    out: &mut [u8],
+    book: &[usize],
+) -> State {
     let made = trace_setup_roster::made(line);
     let code = made.code;
     if code != 0 {
         let mut next = s;
-        next.at = trace_lines_answer::coded(code, h.number, out, h.at);
+        next.at = trace_lines_answer::coded(stdout, code, h.number, out, h.at);
         next.code = trace_lines_answer::after(s.code, code);
         return next;
     }
     let sources = made.sources;
-    with_sources(s, sources, h, book, out)
+    with_sources(s, sources, h, book, stdout, out)
 }
 
 // ---- lines about programs and the engine as a whole
 
-fn put_whole(r: Whole, h: Hand, c: Making, book: &[usize], out: &mut [u8]) -> usize {
+fn put_whole(
+    r: Whole,
+    h: Hand,
+    c: Making,
+    book: &[usize],
+    stdout: Stdout,
+    out: &mut [u8],
+) -> usize {
     if r.code != 0 {
-        return trace_lines_answer::coded(r.code, h.number, out, r.at);
+        return trace_lines_answer::coded(stdout, r.code, h.number, out, r.at);
     }
     if trace_lines_answer::is_quiet(book) {
         return r.at;
     }
-    trace_programs::put(r, c, book, out)
+    trace_programs::put(r, c, book, stdout, out)
 }
 
-fn with_whole(s: State, r: Whole, h: Hand, c: Making, book: &[usize], out: &mut [u8]) -> After {
+fn with_whole(
+    s: State,
+    r: Whole,
+    h: Hand,
+    c: Making,
+    book: &[usize],
+    stdout: Stdout,
+    out: &mut [u8],
+) -> After {
     let engine = r.engine;
     let signals = r.signals;
     let program = r.program;
     let mut state = s;
     state.engine = engine;
     state.signals = signals;
-    state.at = put_whole(r, h, c, book, out);
+    state.at = put_whole(r, h, c, book, stdout, out);
     state.code = trace_lines_answer::after(s.code, r.code);
     After {
         state,
@@ -149,6 +181,7 @@ pub fn on_whole(
     i: usize,
     h: Hand,
     c: Making,
+    stdout: Stdout,
     out: &mut [u8],
     book: &mut [usize],
     desk: &mut [f32],
@@ -159,7 +192,7 @@ pub fn on_whole(
     let preset = s.preset;
     let t = whole_of(s, p, i, h.at);
     let r = trace_programs::whole_line(t, preset, c, i, book, desk, values, audio, pool);
-    with_whole(s, r, h, c, book, out)
+    with_whole(s, r, h, c, book, stdout, out)
 }
 
 // ---- lines about what calls are lent
@@ -171,6 +204,7 @@ pub fn on_lending(
     c: Lending,
     line: &[u8],
     n: usize,
+    stdout: Stdout,
     out: &mut [u8],
     book: &mut [usize],
     pool: &mut [f32],
@@ -180,7 +214,7 @@ pub fn on_lending(
     let signals = b.signals;
     let mut next = s;
     next.signals = signals;
-    next.at = trace_lines_answer::told(b.code, h.number, out, h.at);
+    next.at = trace_lines_answer::told(stdout, b.code, h.number, out, h.at);
     next.code = trace_lines_answer::after(s.code, b.code);
     next
 }

@@ -1,6 +1,8 @@
 // Rows of numbers as text, their hash, and their places.
 #![tactic(auto)]
 
+use std::io::Stdout;
+
 // ---- places; no product or sum of a program's comes near 2^64
 
 pub fn product(a: usize, b: usize) -> usize {
@@ -47,22 +49,22 @@ fn plain_zero(x: f32) -> f32 {
 }
 
 // a blank and a number's bits
-pub fn number(x: f32, canon: bool, out: &mut [u8], at: usize) -> usize {
+pub fn number(stdout: Stdout, x: f32, canon: bool, out: &mut [u8], at: usize) -> usize {
     if canon {
-        return trace_output_show::float_after(out, at, b" ", plain_zero(x));
+        return trace_output_show::float_after(stdout, out, at, b" ", plain_zero(x));
     }
-    trace_output_show::float_after(out, at, b" ", x)
+    trace_output_show::float_after(stdout, out, at, b" ", x)
 }
 
 // the numbers, each after a blank, and the line's end
-pub fn line(xs: &[f32], canon: bool, out: &mut [u8], at: usize) -> usize {
+pub fn line(stdout: Stdout, xs: &[f32], canon: bool, out: &mut [u8], at: usize) -> usize {
     let mut p = at;
     let mut i = 0usize;
     while i < xs.len() {
-        p = number(xs[i], canon, out, p);
+        p = number(stdout, xs[i], canon, out, p);
         i += 1usize;
     }
-    trace_output_show::put(out, p, b"\n")
+    trace_output_show::put(stdout, out, p, b"\n")
 }
 
 // ---- hashes: FNV-1a of 64 bits
@@ -102,7 +104,7 @@ fn glyph(n: u64) -> u8 {
 }
 
 // a blank and sixteen hexadecimal digits
-pub fn word(n: u64, out: &mut [u8], at: usize) -> usize {
+pub fn word(stdout: Stdout, n: u64, out: &mut [u8], at: usize) -> usize {
     let d = [
         32u8,
         glyph(n / 1152921504606846976),
@@ -122,22 +124,37 @@ pub fn word(n: u64, out: &mut [u8], at: usize) -> usize {
         glyph(n / 16),
         glyph(n),
     ];
-    trace_output_show::put(out, at, &d)
+    trace_output_show::put(stdout, out, at, &d)
 }
 
 // a blank and the hash of numbers
-pub fn hashed(xs: &[f32], out: &mut [u8], at: usize) -> usize {
-    word(hash(xs), out, at)
+pub fn hashed(stdout: Stdout, xs: &[f32], out: &mut [u8], at: usize) -> usize {
+    word(stdout, hash(xs), out, at)
 }
 
 // ---- the start of a line
 
-pub fn two_after(out: &mut [u8], at: usize, name: &[u8], a: usize, b: usize) -> usize {
-    let p = trace_output_show::whole_after(out, at, name, a as u64);
-    trace_output_show::whole_after(out, p, b" ", b as u64)
+pub fn two_after(
+    stdout: Stdout,
+    out: &mut [u8],
+    at: usize,
+    name: &[u8],
+    a: usize,
+    b: usize,
+) -> usize {
+    let p = trace_output_show::whole_after(stdout, out, at, name, a as u64);
+    trace_output_show::whole_after(stdout, out, p, b" ", b as u64)
 }
 
-pub fn three_after(out: &mut [u8], at: usize, name: &[u8], a: usize, b: usize, c: usize) -> usize {
-    let p = two_after(out, at, name, a, b);
-    trace_output_show::whole_after(out, p, b" ", c as u64)
+pub fn three_after(
+    stdout: Stdout,
+    out: &mut [u8],
+    at: usize,
+    name: &[u8],
+    a: usize,
+    b: usize,
+    c: usize,
+) -> usize {
+    let p = two_after(stdout, out, at, name, a, b);
+    trace_output_show::whole_after(stdout, out, p, b" ", c as u64)
 }

@@ -4,6 +4,8 @@
 ghost use Rattle.std.specs.Prelude.{◌≡◌};
 ghost use Rattle.trace_output_refusals.specs.Rows.{rows_text, row_words};
 
+use std::io::Stdout;
+
 // the words of a row, by the list of all rows; _ stands for a blank
 fn words(rows: &[u8], row: u8) -> &[u8]
     requires { rows.now ≡ rows_text }
@@ -13,30 +15,30 @@ fn words(rows: &[u8], row: u8) -> &[u8]
 }
 
 // byte i as text, a blank for _
-fn byte(s: &[u8], i: usize, out: &mut [u8], at: usize) -> usize {
+fn byte(stdout: Stdout, s: &[u8], i: usize, out: &mut [u8], at: usize) -> usize {
     if s.len() <= i {
         return at;
     }
     if s[i] == 95 {
-        return trace_output_show::put(out, at, b" ");
+        return trace_output_show::put(stdout, out, at, b" ");
     }
     let b = [s[i]];
-    trace_output_show::put(out, at, &b)
+    trace_output_show::put(stdout, out, at, &b)
 }
 
 // the first n bytes
-fn spaced(s: &[u8], n: usize, out: &mut [u8], at: usize) -> usize {
+fn spaced(stdout: Stdout, s: &[u8], n: usize, out: &mut [u8], at: usize) -> usize {
     let mut p = at;
     let mut i = 0usize;
     while i < n {
-        p = byte(s, i, out, p);
+        p = byte(stdout, s, i, out, p);
         i += 1usize;
     }
     p
 }
 
 // The words of a row.
-pub fn put(row: u8, out: &mut [u8], at: usize) -> usize {
+pub fn put(stdout: Stdout, row: u8, out: &mut [u8], at: usize) -> usize {
     let w = words(
         b"none
 a_range_that_ends_above_the_frames
@@ -56,5 +58,5 @@ a_memory_that_is_too_short,_or_a_signal's_part_outside_it
 a_table_that_is_not_513_long,_or_a_key_above_32_bytes",
         row,
     );
-    spaced(w, w.len(), out, at)
+    spaced(stdout, w, w.len(), out, at)
 }

@@ -3,6 +3,7 @@ ghost use Rattle.std.specs.Prelude.{◌≤◌};
 
 use config::{Config, DESTINATIONS, FRAMES, SLOTS};
 use state::{Aux, Input, Plan, Program, Read, Route, Slew};
+use std::io::Stdout;
 
 // The sizes that places follow from: the lane stride, the frames, and the numbers of a plan and of all plans in the values.
 #[derive(Clone, Copy)]
@@ -46,6 +47,7 @@ fn width(stride: usize, voice: bool) -> usize {
 // ---- the last tick of control plans
 
 fn tick_lines(
+    stdout: Stdout,
     plan: Plan,
     i: usize,
     s: Sizes,
@@ -57,10 +59,17 @@ fn tick_lines(
     let stride = s.stride;
     let w = width(stride, plan.voice);
     let from = trace_output_figures::product(i, s.plan);
-    let mut p = trace_output_show::whole_after(out, at, b"M from ", plan.dest as u64);
-    p = trace_output_figures::line(trace_output_figures::part(values, from, w), canon, out, p);
-    p = trace_output_show::whole_after(out, p, b"M cur ", plan.dest as u64);
+    let mut p = trace_output_show::whole_after(stdout, out, at, b"M from ", plan.dest as u64);
+    p = trace_output_figures::line(
+        stdout,
+        trace_output_figures::part(values, from, w),
+        canon,
+        out,
+        p,
+    );
+    p = trace_output_show::whole_after(stdout, out, p, b"M cur ", plan.dest as u64);
     trace_output_figures::line(
+        stdout,
         trace_output_figures::part(values, trace_output_figures::sum(from, stride), w),
         canon,
         out,
@@ -69,6 +78,7 @@ fn tick_lines(
 }
 
 fn ticks(
+    stdout: Stdout,
     program: Program,
     s: Sizes,
     values: &[f32],
@@ -81,7 +91,7 @@ fn ticks(
     let mut p = at;
     let mut i = 0usize;
     while i < n {
-        p = tick_lines(plan[i], i, s, values, canon, out, p);
+        p = tick_lines(stdout, plan[i], i, s, values, canon, out, p);
         i += 1usize;
     }
     p
@@ -131,6 +141,7 @@ fn aux_keeps(aux: Aux, random: bool) -> bool {
 
 // an input's lanes, after the slot and whether it is the aux
 fn input_line(
+    stdout: Stdout,
     random: bool,
     slot: u8,
     aux: bool,
@@ -139,14 +150,15 @@ fn input_line(
     out: &mut [u8],
     at: usize,
 ) -> usize {
-    let mut p = trace_output_show::either(out, at, random, b"M random ", b"M slew ");
-    p = trace_output_show::whole(out, p, slot as u64);
-    p = trace_output_show::flag_after(out, p, b" ", aux);
-    trace_output_figures::line(lanes, canon, out, p)
+    let mut p = trace_output_show::either(stdout, out, at, random, b"M random ", b"M slew ");
+    p = trace_output_show::whole(stdout, out, p, slot as u64);
+    p = trace_output_show::flag_after(stdout, out, p, b" ", aux);
+    trace_output_figures::line(stdout, lanes, canon, out, p)
 }
 
 // of a route's numbers, those of its source
 fn source_line(
+    stdout: Stdout,
     route: Route,
     random: bool,
     mem: &[f32],
@@ -160,11 +172,12 @@ fn source_line(
         return at;
     }
     let lanes = trace_output_figures::row_of(mem, 0, stride);
-    input_line(random, route.slot, false, lanes, canon, out, at)
+    input_line(stdout, random, route.slot, false, lanes, canon, out, at)
 }
 
 // those of its aux
 fn aux_line(
+    stdout: Stdout,
     route: Route,
     random: bool,
     mem: &[f32],
@@ -178,7 +191,7 @@ fn aux_line(
         return at;
     }
     let lanes = trace_output_figures::row_of(mem, 1, stride);
-    input_line(random, route.slot, true, lanes, canon, out, at)
+    input_line(stdout, random, route.slot, true, lanes, canon, out, at)
 }
 
 // the slews of route r, or its random inputs
@@ -196,6 +209,7 @@ fn route_part(values: &[f32], s: Sizes, r: usize, random: bool) -> &[f32] {
 }
 
 fn route_lines(
+    stdout: Stdout,
     program: Program,
     random: bool,
     s: Sizes,
@@ -211,8 +225,8 @@ fn route_lines(
     let mut r = 0usize;
     while r < n {
         let mem = route_part(values, s, r, random);
-        p = source_line(route[r], random, mem, stride, canon, out, p);
-        p = aux_line(route[r], random, mem, stride, canon, out, p);
+        p = source_line(stdout, route[r], random, mem, stride, canon, out, p);
+        p = aux_line(stdout, route[r], random, mem, stride, canon, out, p);
         r += 1usize;
     }
     p
@@ -220,13 +234,28 @@ fn route_lines(
 
 // ---- audio rows
 
-fn audio_line(plan: Plan, i: usize, s: Sizes, audio: &[f32], out: &mut [u8], at: usize) -> usize {
+fn audio_line(
+    stdout: Stdout,
+    plan: Plan,
+    i: usize,
+    s: Sizes,
+    audio: &[f32],
+    out: &mut [u8],
+    at: usize,
+) -> usize {
     let w = width(s.stride, plan.voice);
     let from = trace_output_figures::product(i, trace_output_figures::product(s.stride, s.frames));
     let all = trace_output_figures::part(audio, from, trace_output_figures::product(w, s.frames));
-    let mut p = trace_output_figures::two_after(out, at, b"M audio ", plan.dest as usize, w);
-    p = trace_output_figures::hashed(all, out, p);
-    trace_output_show::put(out, p, b"\n")
+    let mut p = trace_output_figures::two_after(
+        stdout,
+        out,
+        at,
+        b"M audio ",
+        plan.dest as usize,
+        w,
+    );
+    p = trace_output_figures::hashed(stdout, all, out, p);
+    trace_output_show::put(stdout, out, p, b"\n")
 }
 
 fn is_audio_of(plan: Plan, dest: usize) -> bool {
@@ -238,6 +267,7 @@ fn is_audio_of(plan: Plan, dest: usize) -> bool {
 
 // the audio rows of a destination
 fn audio_of(
+    stdout: Stdout,
     program: Program,
     dest: usize,
     s: Sizes,
@@ -250,33 +280,41 @@ fn audio_of(
     let mut i = 0usize;
     while i < n {
         if is_audio_of(plan[i], dest) {
-            return audio_line(plan[i], i, s, audio, out, at);
+            return audio_line(stdout, plan[i], i, s, audio, out, at);
         }
         i += 1usize;
     }
     at
 }
 
-fn all_audio(program: Program, s: Sizes, audio: &[f32], out: &mut [u8], at: usize) -> usize {
+fn all_audio(
+    stdout: Stdout,
+    program: Program,
+    s: Sizes,
+    audio: &[f32],
+    out: &mut [u8],
+    at: usize,
+) -> usize {
     let n = trace_output_figures::lesser(program.dests, DESTINATIONS);
     let mut p = at;
     let mut d = 0usize;
     while d < n {
-        p = audio_of(program, d, s, audio, out, p);
+        p = audio_of(stdout, program, d, s, audio, out, p);
         d += 1usize;
     }
     p
 }
 
 // the first line
-fn head(name: &[u8], primed: bool, out: &mut [u8], at: usize) -> usize {
-    let mut p = trace_output_show::put(out, at, b"M program ");
-    p = trace_output_show::put(out, p, name);
-    p = trace_output_show::flag_after(out, p, b" primed ", primed);
-    trace_output_show::put(out, p, b"\n")
+fn head(stdout: Stdout, name: &[u8], primed: bool, out: &mut [u8], at: usize) -> usize {
+    let mut p = trace_output_show::put(stdout, out, at, b"M program ");
+    p = trace_output_show::put(stdout, out, p, name);
+    p = trace_output_show::flag_after(stdout, out, p, b" primed ", primed);
+    trace_output_show::put(stdout, out, p, b"\n")
 }
 
 fn all_lines(
+    stdout: Stdout,
     program: Program,
     s: Sizes,
     values: &[f32],
@@ -285,14 +323,15 @@ fn all_lines(
     out: &mut [u8],
     at: usize,
 ) -> usize {
-    let mut p = ticks(program, s, values, canon, out, at);
-    p = route_lines(program, false, s, values, canon, out, p);
-    p = route_lines(program, true, s, values, canon, out, p);
-    all_audio(program, s, audio, out, p)
+    let mut p = ticks(stdout, program, s, values, canon, out, at);
+    p = route_lines(stdout, program, false, s, values, canon, out, p);
+    p = route_lines(stdout, program, true, s, values, canon, out, p);
+    all_audio(stdout, program, s, audio, out, p)
 }
 
 // A program's memory, as text. `primed`: its control plans have ticked since it was installed.
 pub fn memory(
+    stdout: Stdout,
     program: Program,
     primed: bool,
     name: &[u8],
@@ -304,6 +343,6 @@ pub fn memory(
 ) -> usize {
     let config = program.config;
     let s = sizes_of(config, held(program.plans));
-    let p = head(name, primed, out, at);
-    all_lines(program, s, values, audio, canon, out, p)
+    let p = head(stdout, name, primed, out, at);
+    all_lines(stdout, program, s, values, audio, canon, out, p)
 }

@@ -7,6 +7,7 @@ use crate::{How, Print, Told};
 use config::{DESTINATIONS, SLOTS};
 use engine::Engine;
 use state::{Chunk, ChunkRead, Output, Plan, Program};
+use std::io::Stdout;
 use trace_print_order::NONE;
 
 // Which audio rows are printed, and how.
@@ -63,31 +64,31 @@ fn has(dests: &[usize], d: usize) -> bool {
 
 // ---- chunks
 
-fn chunk_places(n: usize, k: Chunk, out: &mut [u8], at: usize) -> usize {
-    let mut p = trace_output_show::whole(out, at, n as u64);
-    p = trace_output_figures::three_after(out, p, b" ", k.start, k.len, k.phase);
-    trace_output_show::flag_after(out, p, b" ", k.tick)
+fn chunk_places(stdout: Stdout, n: usize, k: Chunk, out: &mut [u8], at: usize) -> usize {
+    let mut p = trace_output_show::whole(stdout, out, at, n as u64);
+    p = trace_output_figures::three_after(stdout, out, p, b" ", k.start, k.len, k.phase);
+    trace_output_show::flag_after(stdout, out, p, b" ", k.tick)
 }
 
 // a number, and where the chunk stands
-fn chunk_read(n: usize, read: ChunkRead, out: &mut [u8], at: usize) -> usize {
+fn chunk_read(stdout: Stdout, n: usize, read: ChunkRead, out: &mut [u8], at: usize) -> usize {
     match read {
         ChunkRead::Nothing => at,
-        ChunkRead::Chunk(k) => chunk_places(n, k, out, at),
+        ChunkRead::Chunk(k) => chunk_places(stdout, n, k, out, at),
     }
 }
 
-fn chunk_line(read: ChunkRead, i: usize, out: &mut [u8], at: usize) -> usize {
-    let mut p = trace_output_show::put(out, at, b"CHUNK ");
-    p = chunk_read(i, read, out, p);
-    trace_output_show::put(out, p, b"\n")
+fn chunk_line(stdout: Stdout, read: ChunkRead, i: usize, out: &mut [u8], at: usize) -> usize {
+    let mut p = trace_output_show::put(stdout, out, at, b"CHUNK ");
+    p = chunk_read(stdout, i, read, out, p);
+    trace_output_show::put(stdout, out, p, b"\n")
 }
 
-fn chunk_lines(engine: Engine, chunks: usize, out: &mut [u8], at: usize) -> usize {
+fn chunk_lines(stdout: Stdout, engine: Engine, chunks: usize, out: &mut [u8], at: usize) -> usize {
     let mut p = at;
     let mut i = 0usize;
     while i < chunks {
-        p = chunk_line(engine.chunk(i), i, out, p);
+        p = chunk_line(stdout, engine.chunk(i), i, out, p);
         i += 1usize;
     }
     p
@@ -104,13 +105,28 @@ struct Shape {
 }
 
 // row k of a destination
-fn row_line(name: &[u8], xs: &[f32], s: Shape, k: usize, out: &mut [u8], at: usize) -> usize {
+fn row_line(
+    stdout: Stdout,
+    name: &[u8],
+    xs: &[f32],
+    s: Shape,
+    k: usize,
+    out: &mut [u8],
+    at: usize,
+) -> usize {
     let width = s.width;
-    let p = trace_output_figures::three_after(out, at, name, s.dest, k, width);
-    trace_output_figures::line(trace_output_figures::row_of(xs, k, width), s.canon, out, p)
+    let p = trace_output_figures::three_after(stdout, out, at, name, s.dest, k, width);
+    trace_output_figures::line(
+        stdout,
+        trace_output_figures::row_of(xs, k, width),
+        s.canon,
+        out,
+        p,
+    )
 }
 
 fn control_full(
+    stdout: Stdout,
     from: &[f32],
     to: &[f32],
     s: Shape,
@@ -121,14 +137,15 @@ fn control_full(
     let mut p = at;
     let mut i = 0usize;
     while i < chunks {
-        p = row_line(b"FROM ", from, s, i, out, p);
-        p = row_line(b"TO ", to, s, i, out, p);
+        p = row_line(stdout, b"FROM ", from, s, i, out, p);
+        p = row_line(stdout, b"TO ", to, s, i, out, p);
         i += 1usize;
     }
     p
 }
 
 fn control_hash(
+    stdout: Stdout,
     from: &[f32],
     to: &[f32],
     s: Shape,
@@ -136,16 +153,16 @@ fn control_hash(
     out: &mut [u8],
     at: usize,
 ) -> usize {
-    let mut p = trace_output_figures::three_after(out, at, b"HC ", s.dest, chunks, s.width);
-    p = trace_output_figures::hashed(from, out, p);
-    p = trace_output_figures::hashed(to, out, p);
-    trace_output_show::put(out, p, b"\n")
+    let mut p = trace_output_figures::three_after(stdout, out, at, b"HC ", s.dest, chunks, s.width);
+    p = trace_output_figures::hashed(stdout, from, out, p);
+    p = trace_output_figures::hashed(stdout, to, out, p);
+    trace_output_show::put(stdout, out, p, b"\n")
 }
 
 // the number of lane 0 after a blank
-fn lane_0(xs: &[f32], s: Shape, i: usize, out: &mut [u8], at: usize) -> usize {
+fn lane_0(stdout: Stdout, xs: &[f32], s: Shape, i: usize, out: &mut [u8], at: usize) -> usize {
     let x = list::read(xs, trace_output_figures::product(i, s.width), 0.0);
-    trace_output_figures::number(x, s.canon, out, at)
+    trace_output_figures::number(stdout, x, s.canon, out, at)
 }
 
 // Where the output goes on after a line, or the lines of a destination, and what they are of: a chunk, a destination.
@@ -157,6 +174,7 @@ struct Line {
 
 // the line of chunk i
 fn case_line(
+    stdout: Stdout,
     engine: Engine,
     from: &[f32],
     to: &[f32],
@@ -167,11 +185,11 @@ fn case_line(
 ) -> Line
     ensures { result.of ≡ i }
 {
-    let mut p = trace_output_show::put(out, at, b"D ");
-    p = chunk_read(s.dest, engine.chunk(i), out, p);
-    p = lane_0(from, s, i, out, p);
-    p = lane_0(to, s, i, out, p);
-    p = trace_output_show::put(out, p, b"\n");
+    let mut p = trace_output_show::put(stdout, out, at, b"D ");
+    p = chunk_read(stdout, s.dest, engine.chunk(i), out, p);
+    p = lane_0(stdout, from, s, i, out, p);
+    p = lane_0(stdout, to, s, i, out, p);
+    p = trace_output_show::put(stdout, out, p, b"\n");
     Line { at: p, of: i }
 }
 
@@ -195,6 +213,7 @@ fn noted(chunks: [usize; CHUNKS], i: usize, c: usize) -> [usize; CHUNKS]
 
 // the lines of a control plan go by chunk
 fn control_cases(
+    stdout: Stdout,
     engine: Engine,
     from: &[f32],
     to: &[f32],
@@ -210,7 +229,7 @@ fn control_cases(
     let mut p = at;
     let mut i = 0usize;
     while i < chunks {
-        let line = case_line(engine, from, to, s, i, out, p);
+        let line = case_line(stdout, engine, from, to, s, i, out, p);
         p = line.at;
         let next = noted(printed, i, line.of);
         printed = next;
@@ -223,6 +242,7 @@ fn control_cases(
 }
 
 fn cases_after(
+    stdout: Stdout,
     engine: Engine,
     from: &[f32],
     to: &[f32],
@@ -231,11 +251,12 @@ fn cases_after(
     out: &mut [u8],
     at: usize,
 ) -> usize {
-    let rows = control_cases(engine, from, to, s, chunks, out, at);
+    let rows = control_cases(stdout, engine, from, to, s, chunks, out, at);
     rows.at
 }
 
 fn control(
+    stdout: Stdout,
     engine: Engine,
     values: &[f32],
     s: Shape,
@@ -254,9 +275,9 @@ fn control(
         return at;
     }
     match print {
-        Print::Full => control_full(from, to, s, chunks, out, at),
-        Print::Hash => control_hash(from, to, s, chunks, out, at),
-        Print::Cases => cases_after(engine, from, to, s, chunks, out, at),
+        Print::Full => control_full(stdout, from, to, s, chunks, out, at),
+        Print::Hash => control_hash(stdout, from, to, s, chunks, out, at),
+        Print::Cases => cases_after(stdout, engine, from, to, s, chunks, out, at),
         Print::Silent => at,
     }
 }
@@ -264,6 +285,7 @@ fn control(
 // ---- audio plans
 
 fn audio_full(
+    stdout: Stdout,
     audio: &[f32],
     s: Shape,
     start: usize,
@@ -274,13 +296,14 @@ fn audio_full(
     let mut p = at;
     let mut k = start;
     while k < stop {
-        p = row_line(b"A ", audio, s, k, out, p);
+        p = row_line(stdout, b"A ", audio, s, k, out, p);
         k += 1usize;
     }
     p
 }
 
 fn audio_hash(
+    stdout: Stdout,
     audio: &[f32],
     s: Shape,
     start: usize,
@@ -289,15 +312,15 @@ fn audio_hash(
     at: usize,
 ) -> usize {
     let width = s.width;
-    let p = trace_output_figures::three_after(out, at, b"HA ", s.dest, frames, width);
+    let p = trace_output_figures::three_after(stdout, out, at, b"HA ", s.dest, frames, width);
     let first = trace_output_figures::product(start, width);
     let all = trace_output_figures::part(
         audio,
         first,
         trace_output_figures::product(frames, width),
     );
-    let q = trace_output_figures::hashed(all, out, p);
-    trace_output_show::put(out, q, b"\n")
+    let q = trace_output_figures::hashed(stdout, all, out, p);
+    trace_output_show::put(stdout, out, q, b"\n")
 }
 
 // from a to before b
@@ -316,13 +339,13 @@ fn row_count(len: usize, width: usize) -> usize {
     len / width
 }
 
-fn audio(audio: &[f32], s: Shape, span: Span, out: &mut [u8], at: usize) -> usize {
+fn audio(stdout: Stdout, audio: &[f32], s: Shape, span: Span, out: &mut [u8], at: usize) -> usize {
     let stop = trace_output_figures::lesser(span.end, row_count(audio.len(), s.width));
     let start = span.start;
     let print = span.print;
     match print {
-        Print::Full => audio_full(audio, s, start, stop, out, at),
-        Print::Hash => audio_hash(audio, s, start, between(start, stop), out, at),
+        Print::Full => audio_full(stdout, audio, s, start, stop, out, at),
+        Print::Hash => audio_hash(stdout, audio, s, start, between(start, stop), out, at),
         Print::Cases => at,
         Print::Silent => at,
     }
@@ -341,6 +364,7 @@ fn is_cases(print: Print) -> bool {
 
 // a control plan; the chunks stand before the first
 fn control_after(
+    stdout: Stdout,
     engine: Engine,
     first: bool,
     values: &[f32],
@@ -351,24 +375,33 @@ fn control_after(
     at: usize,
 ) -> usize {
     if first {
-        let p = chunk_lines(engine, chunks, out, at);
-        return control(engine, values, s, chunks, print, out, p);
+        let p = chunk_lines(stdout, engine, chunks, out, at);
+        return control(stdout, engine, values, s, chunks, print, out, p);
     }
-    control(engine, values, s, chunks, print, out, at)
+    control(stdout, engine, values, s, chunks, print, out, at)
 }
 
 // the audio rows of a destination
-fn sounded(engine: Engine, mem: &[f32], s: Shape, span: Span, out: &mut [u8], at: usize) -> usize {
+fn sounded(
+    stdout: Stdout,
+    engine: Engine,
+    mem: &[f32],
+    s: Shape,
+    span: Span,
+    out: &mut [u8],
+    at: usize,
+) -> usize {
     let mut code = 0u8;
     let rows = engine.audio_part(mem, s.dest, &mut code);
     if code != 0 {
         return at;
     }
-    audio(rows, s, span, out, at)
+    audio(stdout, rows, s, span, out, at)
 }
 
 // a destination's output; `first` says that the chunks stand before it
 fn shown(
+    stdout: Stdout,
     engine: Engine,
     dest: usize,
     first: bool,
@@ -385,17 +418,18 @@ fn shown(
         Output::Unmodulated => at,
         Output::Audio { width } => {
             let s = Shape { dest, width, canon };
-            sounded(engine, mem, s, span, out, at)
+            sounded(stdout, engine, mem, s, span, out, at)
         }
         Output::Control { width, chunks } => {
             let s = Shape { dest, width, canon };
-            control_after(engine, first, values, s, chunks, print, out, at)
+            control_after(stdout, engine, first, values, s, chunks, print, out, at)
         }
     }
 }
 
 // a destination's lines
 fn one(
+    stdout: Stdout,
     engine: Engine,
     dest: usize,
     first: bool,
@@ -407,7 +441,7 @@ fn one(
 ) -> Line
     ensures { result.of ≡ dest }
 {
-    let p = shown(engine, dest, first, values, mem, span, out, at);
+    let p = shown(stdout, engine, dest, first, values, mem, span, out, at);
     Line { at: p, of: dest }
 }
 
@@ -421,6 +455,7 @@ struct Printed {
 
 // the outputs that have plans, in this order of their destinations: their lines go by destination number
 fn planned(
+    stdout: Stdout,
     engine: Engine,
     dests: &[usize],
     order: &[usize],
@@ -447,7 +482,7 @@ fn planned(
                 dests: printed,
             };
         }
-        let lines = one(engine, d, d == first, values, audio, span, out, p);
+        let lines = one(stdout, engine, d, d == first, values, audio, span, out, p);
         p = lines.at;
         printed[k] = lines.of;
         k += 1usize;
@@ -459,18 +494,18 @@ fn planned(
 }
 
 // a destination without a plan, after a blank
-fn plain(dests: &[usize], d: usize, out: &mut [u8], at: usize) -> usize {
+fn plain(stdout: Stdout, dests: &[usize], d: usize, out: &mut [u8], at: usize) -> usize {
     if has(dests, d) {
         return at;
     }
-    trace_output_show::whole_after(out, at, b" ", d as u64)
+    trace_output_show::whole_after(stdout, out, at, b" ", d as u64)
 }
 
-fn plains(dests: &[usize], n: usize, out: &mut [u8], at: usize) -> usize {
+fn plains(stdout: Stdout, dests: &[usize], n: usize, out: &mut [u8], at: usize) -> usize {
     let mut p = at;
     let mut d = 0usize;
     while d < n {
-        p = plain(dests, d, out, p);
+        p = plain(stdout, dests, d, out, p);
         d += 1usize;
     }
     p
@@ -488,16 +523,23 @@ fn all_planned(dests: &[usize], n: usize) -> bool {
     true
 }
 
-fn unmodulated(dests: &[usize], n: usize, print: Print, out: &mut [u8], at: usize) -> usize {
+fn unmodulated(
+    stdout: Stdout,
+    dests: &[usize],
+    n: usize,
+    print: Print,
+    out: &mut [u8],
+    at: usize,
+) -> usize {
     if is_cases(print) {
         return at;
     }
     if all_planned(dests, n) {
         return at;
     }
-    let mut p = trace_output_show::put(out, at, b"UNMOD");
-    p = plains(dests, n, out, p);
-    trace_output_show::put(out, p, b"\n")
+    let mut p = trace_output_show::put(stdout, out, at, b"UNMOD");
+    p = plains(stdout, dests, n, out, p);
+    trace_output_show::put(stdout, out, p, b"\n")
 }
 
 // the greater, at most 1,024
@@ -518,6 +560,7 @@ fn chunks_at(program: Program, print: Print) -> usize {
 }
 
 fn all(
+    stdout: Stdout,
     engine: Engine,
     dests: usize,
     values: &[f32],
@@ -533,6 +576,7 @@ fn all(
     let with_plans = dests_of(program, false);
     let order = trace_print_order::in_order(&with_plans);
     let printed = planned(
+        stdout,
         engine,
         &with_plans,
         &order,
@@ -543,7 +587,7 @@ fn all(
         out,
         at,
     );
-    unmodulated(&with_plans, n, print, out, printed.at)
+    unmodulated(stdout, &with_plans, n, print, out, printed.at)
 }
 
 fn is_silent(print: Print) -> bool {
@@ -614,6 +658,7 @@ fn outputs_code(engine: Engine, values: &[f32], audio: &[f32]) -> u8 {
 // The outputs of the destinations below `dests` (the session's registry) and of those that the installed program was
 // compiled against; audio rows from `start` to before `end`. Row 14 is judged whatever is printed.
 pub fn outputs(
+    stdout: Stdout,
     engine: Engine,
     dests: usize,
     values: &[f32],
@@ -638,6 +683,6 @@ pub fn outputs(
         print,
         canon: how.canon,
     };
-    let p = all(engine, dests, values, audio, span, out, at);
+    let p = all(stdout, engine, dests, values, audio, span, out, at);
     Told { code: 0, at: p }
 }

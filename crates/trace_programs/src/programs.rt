@@ -1,6 +1,7 @@
 // Lines that make programs and engines, and that install programs.
 use engine::{Engine, Made, Swapped};
 use state::{Compiled, Program, Signals};
+use std::io::Stdout;
 use trace_grammar::Making;
 use trace_setup_lending::{moved, pool_top};
 use trace_setup_preset::{DESK, NUMBERS, Preset};
@@ -642,29 +643,29 @@ pub fn whole_line(
 
 // ---- what such a line prints
 
-fn put_swap(book: &[usize], i: usize, out: &mut [u8], at: usize) -> usize {
-    let mut p = trace_output_show::put(out, at, b"SWAP ");
-    p = trace_store_titles::put(book, i, out, p);
-    trace_output_show::put(out, p, b"\n")
+fn put_swap(stdout: Stdout, book: &[usize], i: usize, out: &mut [u8], at: usize) -> usize {
+    let mut p = trace_output_show::put(stdout, out, at, b"SWAP ");
+    p = trace_store_titles::put(stdout, book, i, out, p);
+    trace_output_show::put(stdout, out, p, b"\n")
 }
 
-fn put_engine(e: Engine, out: &mut [u8], at: usize) -> usize {
-    let p = trace_output_show::whole_after(out, at, b"ENGINE stride ", e.stride() as u64);
-    trace_output_show::put(out, p, b"\n")
+fn put_engine(stdout: Stdout, e: Engine, out: &mut [u8], at: usize) -> usize {
+    let p = trace_output_show::whole_after(stdout, out, at, b"ENGINE stride ", e.stride() as u64);
+    trace_output_show::put(stdout, out, p, b"\n")
 }
 
-fn put_program(p: Program, out: &mut [u8], at: usize) -> usize {
+fn put_program(stdout: Stdout, p: Program, out: &mut [u8], at: usize) -> usize {
     let config = p.config;
-    trace_print_dump::program(p, program::stride(config).n, out, at)
+    trace_print_dump::program(stdout, p, program::stride(config).n, out, at)
 }
 
 // what a line that was not refused prints
-pub fn put(t: Whole, c: Making, book: &[usize], out: &mut [u8]) -> usize {
+pub fn put(t: Whole, c: Making, book: &[usize], stdout: Stdout, out: &mut [u8]) -> usize {
     let program = t.program;
     let engine = t.engine;
     match c {
-        Making::Compile => put_program(program, out, t.at),
-        Making::Swap => put_swap(book, t.i, out, t.at),
-        Making::Engine => put_engine(engine, out, t.at),
+        Making::Compile => put_program(stdout, program, out, t.at),
+        Making::Swap => put_swap(stdout, book, t.i, out, t.at),
+        Making::Engine => put_engine(stdout, engine, out, t.at),
     }
 }

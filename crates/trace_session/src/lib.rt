@@ -2,6 +2,7 @@
 #![tactic(auto)]
 
 use state::Program;
+use std::io::Stdout;
 use trace_lines_stage::State;
 
 // A session but for its memories: what it has said so far, and its programs.
@@ -35,6 +36,7 @@ fn answered_with(
     number: u64,
     all: bool,
     line: &[u8],
+    stdout: Stdout,
     out: &mut [u8],
     book: &mut [usize],
     desk: &mut [f32],
@@ -47,8 +49,10 @@ fn answered_with(
     let mut shelf = s.shelf;
     let k = trace_dispatch::place(i);
     let p = shelf[k];
-    let h = trace_dispatch::begun(state, number, all, line, book, out);
-    let next = trace_dispatch::on_line(state, p, i, h, line, out, book, desk, values, audio, pool);
+    let h = trace_dispatch::begun(state, number, all, line, book, stdout, out);
+    let next = trace_dispatch::on_line(
+        state, p, i, h, line, stdout, out, book, desk, values, audio, pool,
+    );
     let j = trace_dispatch::place(next.i);
     let q = next.program;
     shelf[j] = q;
@@ -66,6 +70,7 @@ pub fn answered(
     number: u64,
     all: bool,
     line: &[u8],
+    stdout: Stdout,
     out: &mut [u8],
     book: &mut [usize],
     desk: &mut [f32],
@@ -75,6 +80,6 @@ pub fn answered(
 ) -> Session {
     let i = trace_dispatch::number_of(line, book);
     answered_with(
-        s, i, at, number, all, line, out, book, desk, values, audio, pool,
+        s, i, at, number, all, line, stdout, out, book, desk, values, audio, pool,
     )
 }

@@ -6,6 +6,7 @@ ghost use Rattle.std.specs.Prelude.{◌≡◌, ◌+◌, ◌≤◌, length};
 use config::SOURCES;
 use source::{Counts, StandardMade};
 use state::{Kind, Range, Scope, Source, Sources};
+use std::io::Stdout;
 
 // How many audio keys a line may have, and how many bytes they have in all.
 const KEYS: usize = 256;
@@ -118,57 +119,57 @@ pub fn made(line: &[u8]) -> StandardMade {
 
 // ---- the entries as text
 
-fn put_kind(kind: Kind, out: &mut [u8], at: usize) -> usize {
+fn put_kind(stdout: Stdout, kind: Kind, out: &mut [u8], at: usize) -> usize {
     match kind {
-        Kind::Signal => trace_output_show::put(out, at, b" signal"),
-        Kind::Audio => trace_output_show::put(out, at, b" audio"),
-        Kind::Held => trace_output_show::put(out, at, b" held"),
-        Kind::Velocity => trace_output_show::put(out, at, b" velocity"),
-        Kind::Key => trace_output_show::put(out, at, b" key"),
-        Kind::ReleaseVelocity => trace_output_show::put(out, at, b" release"),
-        Kind::Random => trace_output_show::put(out, at, b" random"),
+        Kind::Signal => trace_output_show::put(stdout, out, at, b" signal"),
+        Kind::Audio => trace_output_show::put(stdout, out, at, b" audio"),
+        Kind::Held => trace_output_show::put(stdout, out, at, b" held"),
+        Kind::Velocity => trace_output_show::put(stdout, out, at, b" velocity"),
+        Kind::Key => trace_output_show::put(stdout, out, at, b" key"),
+        Kind::ReleaseVelocity => trace_output_show::put(stdout, out, at, b" release"),
+        Kind::Random => trace_output_show::put(stdout, out, at, b" random"),
         Kind::Alternate { inverse } => trace_output_show::either(
-            out, at, inverse, b" altinv", b" alt",
+            stdout, out, at, inverse, b" altinv", b" alt",
         ),
-        Kind::RandomPerRoute => trace_output_show::put(out, at, b" routerandom"),
-        Kind::VoiceLoad => trace_output_show::put(out, at, b" load"),
-        Kind::Constant => trace_output_show::put(out, at, b" constant"),
+        Kind::RandomPerRoute => trace_output_show::put(stdout, out, at, b" routerandom"),
+        Kind::VoiceLoad => trace_output_show::put(stdout, out, at, b" load"),
+        Kind::Constant => trace_output_show::put(stdout, out, at, b" constant"),
     }
 }
 
-fn put_scope(scope: Scope, out: &mut [u8], at: usize) -> usize {
+fn put_scope(stdout: Stdout, scope: Scope, out: &mut [u8], at: usize) -> usize {
     match scope {
-        Scope::Voice => trace_output_show::put(out, at, b" v"),
-        Scope::Global => trace_output_show::put(out, at, b" g"),
+        Scope::Voice => trace_output_show::put(stdout, out, at, b" v"),
+        Scope::Global => trace_output_show::put(stdout, out, at, b" g"),
     }
 }
 
-fn put_range(range: Range, out: &mut [u8], at: usize) -> usize {
+fn put_range(stdout: Stdout, range: Range, out: &mut [u8], at: usize) -> usize {
     match range {
-        Range::Unipolar => trace_output_show::put(out, at, b" u\n"),
-        Range::Bipolar => trace_output_show::put(out, at, b" b\n"),
+        Range::Unipolar => trace_output_show::put(stdout, out, at, b" u\n"),
+        Range::Bipolar => trace_output_show::put(stdout, out, at, b" b\n"),
     }
 }
 
-fn put_name(key: &[u8], out: &mut [u8], at: usize) -> usize {
+fn put_name(stdout: Stdout, key: &[u8], out: &mut [u8], at: usize) -> usize {
     if key.len() == 0 {
-        return trace_output_show::put(out, at, b" ~");
+        return trace_output_show::put(stdout, out, at, b" ~");
     }
-    let p = trace_output_show::put(out, at, b" ");
-    trace_output_show::put(out, p, key)
+    let p = trace_output_show::put(stdout, out, at, b" ");
+    trace_output_show::put(stdout, out, p, key)
 }
 
 // entry i
-fn put_entry(e: Source, i: usize, out: &mut [u8], at: usize) -> usize {
+fn put_entry(stdout: Stdout, e: Source, i: usize, out: &mut [u8], at: usize) -> usize {
     let key = e.key;
     let kind = e.kind;
     let scope = e.scope;
     let range = e.range;
-    let mut p = trace_output_show::whole_after(out, at, b"ENTRY ", i as u64);
-    p = put_name(trace_input_session::part(&key, 0, e.len), out, p);
-    p = put_kind(kind, out, p);
-    p = put_scope(scope, out, p);
-    put_range(range, out, p)
+    let mut p = trace_output_show::whole_after(stdout, out, at, b"ENTRY ", i as u64);
+    p = put_name(stdout, trace_input_session::part(&key, 0, e.len), out, p);
+    p = put_kind(stdout, kind, out, p);
+    p = put_scope(stdout, scope, out, p);
+    put_range(stdout, range, out, p)
 }
 
 fn lesser(a: usize, b: usize) -> usize
@@ -186,15 +187,15 @@ fn entries_of(sources: Sources) -> [Source; SOURCES]
 }
 
 // How many sources there are, and each of them.
-pub fn put(sources: Sources, out: &mut [u8], at: usize) -> usize {
+pub fn put(stdout: Stdout, sources: Sources, out: &mut [u8], at: usize) -> usize {
     let n = lesser(sources.count, SOURCES);
     let entries = entries_of(sources);
-    let mut p = trace_output_show::whole_after(out, at, b"STANDARD ", sources.count as u64);
-    p = trace_output_show::put(out, p, b"\n");
+    let mut p = trace_output_show::whole_after(stdout, out, at, b"STANDARD ", sources.count as u64);
+    p = trace_output_show::put(stdout, out, p, b"\n");
     let mut i = 0usize;
     while i < n {
         let e = entries[i];
-        p = put_entry(e, i, out, p);
+        p = put_entry(stdout, e, i, out, p);
         i += 1usize;
     }
     p

@@ -1,6 +1,7 @@
 // Programs by name: program 0 is called ~, the names of the others stand in the book.
 #![tactic(auto)]
 
+use std::io::Stdout;
 use trace_store_book::{BARE, INSTALLED, OUTSIDE, PROGRAMS, TITLE_CELLS, TITLES};
 
 // More programs than there are places, or longer names.
@@ -80,9 +81,9 @@ fn own(cell: &mut [u8]) -> usize {
 }
 
 // the name of program i
-pub fn put(book: &[usize], i: usize, out: &mut [u8], at: usize) -> usize {
+pub fn put(stdout: Stdout, book: &[usize], i: usize, out: &mut [u8], at: usize) -> usize {
     let mut cell = [0u8; 64];
     let n = copied(book, i, &mut cell);
     let m = trace_store_book::at_most(n, 64);
-    trace_output_show::put(out, at, &cell[0..m])
+    trace_output_show::put(stdout, out, at, &cell[0..m])
 }

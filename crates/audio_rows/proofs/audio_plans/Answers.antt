@@ -1,7 +1,6 @@
 -- `audio_rows::audio_plans` meets its contract.
 use native.Mathlib.Omega.{arith}
 use Rattle.audio_rows.proofs.Chunk.{plans-none, plans-done}
-use borrow.Author.Rules.{rules}
 use Rattle.audio_rows.proofs.audio_plans.Goals as goal
 
 pub returns-then-work : goal.returns-then-work

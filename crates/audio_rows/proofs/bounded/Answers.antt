@@ -1,5 +1,4 @@
 -- `audio_rows::bounded` meets its contract.
-use borrow.Author.Rules.{rules}
 use mathlib.Core.Path.{ap, sym, ◌∙◌}
 use mathlib.Core.Bool.{false}
 use lib.Ieee.{Float, inf, lt}

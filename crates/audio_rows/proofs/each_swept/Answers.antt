@@ -1,5 +1,7 @@
-use mathlib.Core.Path.{◌≡◌, refl, sym, subst}
-use Prim.Native.Nat.{ℕ, ◌+◌, ◌-◌, ◌≤◌, ◌<◌}
+use mathlib.Core.Path.{ap}
+use mathlib.Core.Bool.{not}
+use mathlib.Core.Path.{refl, subst}
+use Prim.Native.Nat.{ℕ, ◌+◌, ◌<◌}
 use native.Mathlib.Omega.{arith}
 use borrow.Author.Count.{below_more}
 use lib.ListN.{length, get_or}
@@ -26,7 +28,7 @@ loop-k-preserved c =
       omega arith,
       l.invariant.1,
       below_more (λ (i : ℕ). Swept a.field (get_or a.plans (a.control + i) no_plan) a.steps.now) l.k l.invariant.2
-          (subst (λ (y : Plan). Swept a.field y a.steps.now) (get_or-inside a.plans (a.control + l.k) _ no_plan near) (c.is_swept.ensures (was-true refl c.if-not-is_swept.false))),
+          (subst (λ (y : Plan). Swept a.field y a.steps.now) (get_or-inside a.plans (a.control + l.k) _ no_plan near) (c.is_swept.ensures (was-true refl (ap not c.if-not-is_swept.false)))),
     )
 
 pub returns : goal.returns

@@ -1,11 +1,6 @@
 use borrow.Author.Rules.{rules}
-use mathlib.Core.Path.{◌≡◌}
-use Prim.Native.Nat.{ℕ, ◌-◌, ◌≤◌}
 use native.Mathlib.Omega.{arith}
-use lib.ListN.{length}
-use Rattle.state.specs.declared.State.{State}
-use Rattle.plan_slews.specs.Put.{new_need}
-use Rattle.audio_rows.specs.Rows.{sounds, job_env, Of, row_frames}
+use Rattle.audio_rows.specs.Rows.{sounds}
 use Rattle.audio_rows.proofs.Jobs.{bounded_at}
 use Rattle.audio_rows.proofs.Chunk.{frames-none, frames-more, frames-end}
 use Rattle.audio_rows.proofs.frames.Goals as goal

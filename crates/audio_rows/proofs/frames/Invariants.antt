@@ -1,14 +1,10 @@
 -- `audio_rows::frames` meets its contract. The invariant: the frames before n are done.
-use borrow.Author.Rules.{rules}
 use mathlib.Core.Path.{◌≡◌}
 use Prim.Native.Nat.{ℕ, ◌-◌, ◌≤◌}
-use native.Mathlib.Omega.{arith}
 use lib.ListN.{length}
 use Rattle.state.specs.declared.State.{State}
 use Rattle.plan_slews.specs.Put.{new_need}
 use Rattle.audio_rows.specs.Rows.{sounds, job_env, Of, row_frames}
-use Rattle.audio_rows.proofs.Jobs.{bounded_at}
-use Rattle.audio_rows.proofs.Chunk.{frames-none, frames-more, frames-end}
 use Rattle.audio_rows.proofs.frames.Given as goal
 
 abbrev pub invariant-loop-n : goal.invariant-loop-n

@@ -1,18 +1,9 @@
 use borrow.Author.Rules.{rules}
 use mathlib.Core.Path.{◌≡◌}
-use mathlib.Core.Bool.{Bool, cond, not, ◌||◌}
-use Prim.Native.Nat.{ℕ, ◌-◌, ◌≤◌}
 use native.Mathlib.Omega.{arith}
 use lib.ListN.{length}
-use lib.Ieee.{Float}
-use Rattle.number.specs.Number.{hold}
-use Rattle.model.specs.Env.{Env}
-use Rattle.model.specs.Lanes.{in_span}
-use Rattle.plan_sum.specs.declared.Job.{Job}
-use Rattle.plan_sum.specs.Job.{IsScene}
-use Rattle.plan_sum.proofs.Lanes.{Laned, laned-none, laned-more}
+use Rattle.plan_sum.proofs.Lanes.{laned-none, laned-more}
 use Rattle.audio_rows.proofs.hold_lanes.Goals as goal
-use Rattle.audio_rows.proofs.hold_lanes.Invariants.{Each}
 
 pub loop-l-init : goal.loop-l-init
 loop-l-init c = (omega arith, laned-none _ _)

@@ -1,17 +1,14 @@
 -- `audio_rows::hold_lanes` meets its contract. The invariant: the lanes below l are held.
-use borrow.Author.Rules.{rules}
 use mathlib.Core.Path.{◌≡◌}
 use mathlib.Core.Bool.{Bool, cond, not, ◌||◌}
 use Prim.Native.Nat.{ℕ, ◌-◌, ◌≤◌}
-use native.Mathlib.Omega.{arith}
-use lib.ListN.{length}
 use lib.Ieee.{Float}
 use Rattle.number.specs.Number.{hold}
 use Rattle.model.specs.Env.{Env}
 use Rattle.model.specs.Lanes.{in_span}
 use Rattle.plan_sum.specs.declared.Job.{Job}
 use Rattle.plan_sum.specs.Job.{IsScene}
-use Rattle.plan_sum.proofs.Lanes.{Laned, laned-none, laned-more}
+use Rattle.plan_sum.proofs.Lanes.{Laned}
 use Rattle.audio_rows.proofs.hold_lanes.Given as goal
 
 -- what is stored in a lane, of what stood there

@@ -1,5 +1,4 @@
 -- `audio_rows::job_at` meets its contract.
-use borrow.Author.Rules.{rules}
 use Rattle.audio_rows.proofs.Jobs.{job-at}
 use Rattle.audio_rows.proofs.job_at.Goals as goal
 

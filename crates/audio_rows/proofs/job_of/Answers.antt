@@ -1,5 +1,4 @@
 -- `audio_rows::job_of` meets its contract.
-use borrow.Author.Rules.{rules}
 use Rattle.plan_sum.proofs.Simple.{none_of}
 use Rattle.audio_rows.proofs.Jobs.{job-of}
 use Rattle.audio_rows.proofs.job_of.Goals as goal

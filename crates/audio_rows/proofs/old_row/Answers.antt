@@ -1,10 +1,5 @@
 use borrow.Author.Rules.{rules}
-use mathlib.Core.Path.{◌≡◌}
-use Prim.Native.Nat.{◌-◌, ◌≤◌}
 use native.Mathlib.Omega.{arith}
-use lib.ListN.{length}
-use Rattle.model.specs.Tick.{lanes_from}
-use Rattle.plan_slews.specs.Rows.{IsRow}
 use Rattle.plan_slews.proofs.Lanes.{row_more, row-fewer}
 use Rattle.audio_rows.proofs.old_row.Goals as goal
 

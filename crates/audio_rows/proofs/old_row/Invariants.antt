@@ -1,12 +1,9 @@
 -- `audio_rows::old_row` meets its contract. The invariant: the lanes before l are read.
-use borrow.Author.Rules.{rules}
 use mathlib.Core.Path.{◌≡◌}
 use Prim.Native.Nat.{◌-◌, ◌≤◌}
-use native.Mathlib.Omega.{arith}
 use lib.ListN.{length}
 use Rattle.model.specs.Tick.{lanes_from}
 use Rattle.plan_slews.specs.Rows.{IsRow}
-use Rattle.plan_slews.proofs.Lanes.{row_more, row-fewer}
 use Rattle.audio_rows.proofs.old_row.Given as goal
 
 abbrev pub invariant-loop-l : goal.invariant-loop-l

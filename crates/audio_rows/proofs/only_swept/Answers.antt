@@ -1,9 +1,6 @@
 -- `audio_rows::only_swept` meets its contract.
-use mathlib.Core.Path.{◌≡◌}
 use native.Mathlib.Omega.{arith}
-use borrow.Author.Rules.{rules}
 use Rattle.plan_sweep.proofs.Kept.{never}
-use borrow.Author.Rules.{rules}
 use Rattle.audio_rows.proofs.only_swept.Goals as goal
 
 pub returns-then-sweeping-gt0 : goal.returns-then-sweeping-gt0

@@ -1,6 +1,5 @@
 -- `audio_rows::pass_of` meets its contract.
 use Rattle.audio_rows.proofs.Sweeps.{pass-is}
-use borrow.Author.Rules.{rules}
 use Rattle.audio_rows.proofs.pass_of.Goals as goal
 
 pub returns : goal.returns

@@ -1,5 +1,4 @@
 -- `audio_rows::plan_frames` meets its contract: the rows are a part of the audio.
-use borrow.Author.Rules.{rules}
 use mathlib.Core.Path.{ap}
 use Prim.Native.Nat.{ℕ, ◌+◌}
 use native.Mathlib.Omega.{arith}

@@ -1,11 +1,7 @@
-use mathlib.Core.Path.{◌≡◌, sym}
-use Prim.Native.Nat.{ℕ, ◌+◌, ◌-◌, ◌≤◌}
+use mathlib.Core.Path.{sym}
+use Prim.Native.Nat.{◌+◌}
 use native.Mathlib.Omega.{arith}
-use lib.ListN.{length}
-use Rattle.state.specs.declared.State.{State}
-use Rattle.model.specs.Audio.{audio_plans}
 use Rattle.audio_rows.specs.Rows.{sounds}
-use Rattle.audio_rows.specs.Work.{Installed, work_env}
 use Rattle.audio_rows.proofs.Chunk.{plans-none, plans-more, plans-done}
 use Rattle.audio_rows.proofs.Sweeps.{ready-less}
 use borrow.Author.Rules.{rules}

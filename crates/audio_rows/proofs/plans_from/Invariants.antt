@@ -1,15 +1,11 @@
 -- `audio_rows::plans_from` meets its contract. The invariant: the plans before k are done.
-use mathlib.Core.Path.{◌≡◌, sym}
-use Prim.Native.Nat.{ℕ, ◌+◌, ◌-◌, ◌≤◌}
-use native.Mathlib.Omega.{arith}
+use mathlib.Core.Path.{◌≡◌}
+use Prim.Native.Nat.{◌-◌, ◌≤◌}
 use lib.ListN.{length}
 use Rattle.state.specs.declared.State.{State}
 use Rattle.model.specs.Audio.{audio_plans}
 use Rattle.audio_rows.specs.Rows.{sounds}
 use Rattle.audio_rows.specs.Work.{Installed, work_env}
-use Rattle.audio_rows.proofs.Chunk.{plans-none, plans-more, plans-done}
-use Rattle.audio_rows.proofs.Sweeps.{ready-less}
-use borrow.Author.Rules.{rules}
 use Rattle.audio_rows.proofs.plans_from.Given as goal
 
 abbrev pub invariant-loop-k : goal.invariant-loop-k

@@ -1,7 +1,5 @@
 -- `audio_rows::sweep_all` meets its contract.
-use borrow.Author.Rules.{rules}
 use Rattle.audio_rows.proofs.Chunk.{plans-done}
-use borrow.Author.Rules.{rules}
 use Rattle.audio_rows.proofs.sweep_all.Goals as goal
 
 pub returns : goal.returns

@@ -1,19 +1,11 @@
-use mathlib.Core.Path.{◌≡◌, refl, sym, ap, ap₂, ◌∙◌}
-use mathlib.Core.List.{List}
-use Prim.Native.Nat.{ℕ, ◌+◌, ◌-◌, ◌≤◌, ◌<◌}
+use mathlib.Core.Path.{sym, ap, ap₂, ◌∙◌}
+use Prim.Native.Nat.{ℕ, ◌+◌, ◌<◌}
 use native.Mathlib.Omega.{arith}
 use lib.ListN.{length}
-use lib.Ieee.{Float}
 use Rattle.list.proofs.Elements.{get_or-inside, length-mapped}
 use Rattle.state_filled.specs.Filled.{no_plan}
-use Rattle.state.specs.declared.State.{State}
-use Rattle.model.specs.Audio.{Sounds, audio_plans}
 use Rattle.plan_sweep.specs.declared.Pass.{Pass}
 use Rattle.plan_sweep.specs.Sweep.{swept_rows}
-use Rattle.audio_rows.specs.declared.Work.{Work}
-use Rattle.audio_rows.specs.Rows.{sounds}
-use Rattle.audio_rows.specs.Work.{Installed, work_env}
-use Rattle.audio_rows.specs.Passes.{Prepared}
 use Rattle.audio_rows.proofs.Chunk.{plans-none, plans-end}
 use Rattle.audio_rows.proofs.Sweeps.{within, plans-swept, ready-less, rows-room, swept-at, plan-fits}
 use borrow.Author.Rules.{rules}

@@ -1,5 +1,4 @@
 -- `audio_rows::sweep_from` meets its contract.
-use borrow.Author.Rules.{rules}
 use Rattle.audio_rows.proofs.sweep_from.Goals as goal
 
 pub returns : goal.returns

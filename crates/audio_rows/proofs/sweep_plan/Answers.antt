@@ -4,7 +4,6 @@ use Prim.Native.Nat.{ℕ, ◌+◌}
 use native.Mathlib.Omega.{arith}
 use Rattle.list.specs.Part.{part, on_part}
 use Rattle.audio_rows.proofs.Parts.{swept-part}
-use borrow.Author.Rules.{rules}
 use Rattle.audio_rows.proofs.sweep_plan.Goals as goal
 
 pub returns : goal.returns

@@ -1,20 +1,13 @@
-use mathlib.Core.Path.{◌≡◌, refl, sym, ap, ap₂, ◌∙◌}
-use mathlib.Core.List.{List}
-use Prim.Native.Nat.{ℕ, ◌+◌, ◌-◌, ◌≤◌, ◌<◌}
+use mathlib.Core.Bool.{not}
+use mathlib.Core.Path.{refl, sym, ap, ap₂, ◌∙◌}
+use Prim.Native.Nat.{ℕ, ◌+◌, ◌<◌}
 use native.Mathlib.Omega.{arith}
 use lib.ListN.{length}
-use lib.Ieee.{Float}
 use Rattle.list.proofs.Elements.{get_or-inside, length-mapped}
 use Rattle.state_filled.specs.Filled.{no_plan}
-use Rattle.state.specs.declared.State.{State}
-use Rattle.model.specs.Audio.{Sounds, audio_plans}
 use Rattle.lane_input.proofs.Tests.{was-true}
 use Rattle.plan_sweep.specs.declared.Pass.{Pass}
 use Rattle.plan_sweep.specs.Sweep.{swept_rows}
-use Rattle.audio_rows.specs.declared.Work.{Work}
-use Rattle.audio_rows.specs.Rows.{sounds}
-use Rattle.audio_rows.specs.Work.{Installed, work_env}
-use Rattle.audio_rows.specs.Passes.{Prepared}
 use Rattle.audio_rows.proofs.Sweeps.{within, plans-swept, ready-less, rows-room}
 use borrow.Author.Rules.{rules}
 use Rattle.audio_rows.proofs.sweep_plans.Goals as goal
@@ -38,7 +31,7 @@ pub returns-then-not-is_swept : goal.returns-then-not-is_swept
 returns-then-not-is_swept c = let i = c.loop-k in (i.invariant.0, i.invariant.1, i.invariant.4)
 
 pub pass_of-pass-requires : goal.pass_of-pass-requires
-pass_of-pass-requires c = omega (arith, c.requires.0.offsets, (c.is_swept.ensures (was-true refl c.if-not-is_swept.false)).routes)
+pass_of-pass-requires c = omega (arith, c.requires.0.offsets, (c.is_swept.ensures (was-true refl (ap not c.if-not-is_swept.false))).routes)
 
 pub audio_at-a-requires : goal.audio_at-a-requires
 audio_at-a-requires c = let z = c.requires.0 in
@@ -49,7 +42,7 @@ sweep_plan-requires c = let a = c.args in
     let i = c.loop-k in
     let pass = c.pass_of-pass.ensures in
     let ready = ready-less a.field a.chunk (a.control + a.count) (a.control + i.k + 1) (length a.audio.now) (length i.audio) a.samples.now a.starts.now a.steps.now a.gains.now a.offsets.now (omega (arith, c.loop-k-test.true)) (sym i.invariant.2) c.requires.0 in (
-      within a.field a.chunk (a.control + i.k) (length i.audio) a.samples.now a.starts.now a.steps.now a.gains.now a.offsets.now _ _ pass ready (c.is_swept.ensures (was-true refl c.if-not-is_swept.false)),
+      within a.field a.chunk (a.control + i.k) (length i.audio) a.samples.now a.starts.now a.steps.now a.gains.now a.offsets.now _ _ pass ready (c.is_swept.ensures (was-true refl (ap not c.if-not-is_swept.false))),
       rows-room a.field a.chunk (a.control + i.k) (length i.audio) _ _ a.samples.now a.starts.now a.steps.now a.gains.now a.offsets.now c.audio_at-a.ensures.0 (ap (λ (z : Pass). z.width) pass) ready,
     )
 
@@ -69,7 +62,7 @@ loop-k-preserved c = let a = c.args in
       i.invariant.3,
       λ st w h b v m e z d.
           plans-swept st w e h a.globals.now a.bases.now b a.samples.now a.chunk a.field a.plans a.control a.levels a.starts.now a.steps.now a.gains.now a.offsets.now z i.k _
-          (get_or-inside a.plans (a.control + i.k) _ no_plan near) (c.is_swept.ensures (was-true refl c.if-not-is_swept.false)) m v i.audio _ (i.invariant.4 st w h b v m e z d)
+          (get_or-inside a.plans (a.control + i.k) _ no_plan near) (c.is_swept.ensures (was-true refl (ap not c.if-not-is_swept.false))) m v i.audio _ (i.invariant.4 st w h b v m e z d)
           (c.sweep_plan.ensures
           ∙ ap₂ (λ (z : Pass) (n : ℕ). swept_rows a.starts.now a.steps.now a.gains.now a.samples.now z n a.chunk.start a.chunk.len i.audio) c.pass_of-pass.ensures c.audio_at-a.ensures.0),
     )

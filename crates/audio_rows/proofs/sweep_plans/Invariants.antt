@@ -1,23 +1,15 @@
 -- `audio_rows::sweep_plans` meets its contract. The invariant: the plans before k are done.
-use mathlib.Core.Path.{◌≡◌, refl, sym, ap, ap₂, ◌∙◌}
+use mathlib.Core.Path.{◌≡◌}
 use mathlib.Core.List.{List}
-use Prim.Native.Nat.{ℕ, ◌+◌, ◌-◌, ◌≤◌, ◌<◌}
-use native.Mathlib.Omega.{arith}
+use Prim.Native.Nat.{◌-◌, ◌≤◌}
 use lib.ListN.{length}
 use lib.Ieee.{Float}
-use Rattle.list.proofs.Elements.{get_or-inside, length-mapped}
-use Rattle.state_filled.specs.Filled.{no_plan}
 use Rattle.state.specs.declared.State.{State}
 use Rattle.model.specs.Audio.{Sounds, audio_plans}
-use Rattle.lane_input.proofs.Tests.{was-true}
-use Rattle.plan_sweep.specs.declared.Pass.{Pass}
-use Rattle.plan_sweep.specs.Sweep.{swept_rows}
 use Rattle.audio_rows.specs.declared.Work.{Work}
 use Rattle.audio_rows.specs.Rows.{sounds}
 use Rattle.audio_rows.specs.Work.{Installed, work_env}
 use Rattle.audio_rows.specs.Passes.{Prepared}
-use Rattle.audio_rows.proofs.Sweeps.{within, plans-swept, ready-less, rows-room}
-use borrow.Author.Rules.{rules}
 use Rattle.audio_rows.proofs.sweep_plans.Given as goal
 
 abbrev pub invariant-loop-k : goal.invariant-loop-k

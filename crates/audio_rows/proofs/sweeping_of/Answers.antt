@@ -1,6 +1,5 @@
 -- `audio_rows::sweeping_of` meets its contract.
 use Rattle.audio_rows.proofs.Sweeps.{sweeping-is}
-use borrow.Author.Rules.{rules}
 use Rattle.audio_rows.proofs.sweeping_of.Goals as goal
 
 pub returns : goal.returns

@@ -1,7 +1,6 @@
 -- `block::answered` meets its contract.
 use Rattle.block.proofs.Blocks.{answered-refused, answered-empty, answered-run}
 use Rattle.block.proofs.Rests.{same-small}
-use borrow.Author.Rules.{rules}
 use Rattle.block.proofs.answered.Goals as goal
 
 pub returns-then-code-ne0 : goal.returns-then-code-ne0

@@ -1,7 +1,4 @@
 -- `block::chunk_steps` meets its contract.
-use Rattle.lane_input.proofs.Tests.{was-true}
-use mathlib.Core.Path.{refl}
-use borrow.Author.Rules.{rules}
 use Rattle.block.proofs.chunk_steps.Goals as goal
 
 pub only_swept-requires : goal.only_swept-requires

@@ -2,7 +2,6 @@
 use mathlib.Core.Path.{refl}
 use Rattle.model.specs.States.{with_phase, with_marks, with_block}
 use Rattle.block.proofs.Blocks.{closed_is}
-use borrow.Author.Rules.{rules}
 use Rattle.block.proofs.closed.Goals as goal
 
 pub returns : goal.returns

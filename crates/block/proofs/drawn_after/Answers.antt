@@ -1,6 +1,5 @@
 -- `block::drawn_after` meets its contract.
 use Rattle.block.proofs.Blocks.{draws-fit, draws-are}
-use borrow.Author.Rules.{rules}
 use Rattle.block.proofs.drawn_after.Goals as goal
 
 pub draw_routes-requires : goal.draw_routes-requires

@@ -1,14 +1,10 @@
 -- `block::each_step` meets its contract.
-use borrow.Author.Rules.{rules}
 use mathlib.Core.Path.{◌≡◌}
 use Prim.Native.Nat.{◌-◌, ◌≤◌}
-use native.Mathlib.Omega.{arith}
 use lib.ListN.{length}
 use Rattle.model.specs.World.{world_of}
 use Rattle.model.specs.Process.{chunk_steps}
 use Rattle.block.specs.Room.{Keeps}
-use Rattle.block.proofs.Steps.{keeps_self, keeps_on}
-use Rattle.block.proofs.Blocks.{step-ready, steps-none, steps-more, steps_all}
 use Rattle.block.proofs.each_step.Given as goal
 
 abbrev pub invariant-loop-i : goal.invariant-loop-i

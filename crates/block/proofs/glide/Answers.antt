@@ -1,6 +1,5 @@
 -- `block::glide` meets its contract.
 use Rattle.block.proofs.Moves.{moved-in, held-in}
-use borrow.Author.Rules.{rules}
 use Rattle.block.proofs.glide.Goals as goal
 
 pub returns : goal.returns

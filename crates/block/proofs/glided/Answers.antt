@@ -2,7 +2,6 @@
 use native.Mathlib.Omega.{arith}
 use Rattle.model.specs.States.{with_velocity, with_key}
 use Rattle.block.proofs.Steps.{held-fit, glided-is, glided-keeps}
-use borrow.Author.Rules.{rules}
 use Rattle.block.proofs.glided.Goals as goal
 
 pub moved_held-requires : goal.moved_held-requires

@@ -1,6 +1,5 @@
 -- `block::glides_of` meets its contract.
 use Rattle.block.proofs.Moves.{glides-are}
-use borrow.Author.Rules.{rules}
 use Rattle.block.proofs.glides_of.Goals as goal
 
 pub returns : goal.returns

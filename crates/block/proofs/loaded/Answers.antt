@@ -1,6 +1,5 @@
 -- `block::loaded` meets its contract.
 use Rattle.block.proofs.Blocks.{loaded-is}
-use borrow.Author.Rules.{rules}
 use Rattle.block.proofs.loaded.Goals as goal
 
 pub returns : goal.returns

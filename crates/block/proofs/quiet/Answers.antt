@@ -5,7 +5,6 @@ use Rattle.model.specs.States.{with_phase, with_marks, with_block, with_velocity
 use Rattle.model.specs.World.{world_of}
 use Rattle.block.specs.Worlds.{closed_world}
 use Rattle.block.proofs.Blocks.{closed_is}
-use borrow.Author.Rules.{rules}
 use Rattle.block.proofs.quiet.Goals as goal
 
 pub returns : goal.returns

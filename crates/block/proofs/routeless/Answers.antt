@@ -4,7 +4,6 @@ use mathlib.Core.Path.{◌∙◌, ap}
 use Rattle.model.specs.Process.{no_block}
 use Rattle.block.specs.Worlds.{closed_world, routeless_world}
 use Rattle.block.proofs.Steps.{held-fit, glided-is}
-use borrow.Author.Rules.{rules}
 use Rattle.block.proofs.routeless.Goals as goal
 
 pub moved_held-requires : goal.moved_held-requires

@@ -1,6 +1,5 @@
 -- `block::rowed` meets its contract.
 use Rattle.block.proofs.Steps.{rows_fit, rowed-is}
-use borrow.Author.Rules.{rules}
 use Rattle.block.proofs.rowed.Goals as goal
 
 pub rows_of_chunk-requires : goal.rows_of_chunk-requires

@@ -1,7 +1,6 @@
 -- `block::run` meets its contract.
 use Rattle.block.proofs.Blocks.{run_none, run-some}
 use Rattle.block.proofs.Rests.{routed-small}
-use borrow.Author.Rules.{rules}
 use Rattle.block.proofs.run.Goals as goal
 
 pub returns-then-program-eq0 : goal.returns-then-program-eq0

@@ -1,5 +1,4 @@
 -- `block::scene_of` meets its contract.
-use borrow.Author.Rules.{rules}
 use Rattle.block.proofs.scene_of.Goals as goal
 
 pub returns : goal.returns

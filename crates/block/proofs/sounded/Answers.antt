@@ -1,6 +1,5 @@
 -- `block::sounded` meets its contract.
 use Rattle.block.proofs.Steps.{work-sized, work-room, sounded-is}
-use borrow.Author.Rules.{rules}
 use Rattle.block.proofs.sounded.Goals as goal
 
 pub audio_plans-requires : goal.audio_plans-requires

@@ -1,6 +1,5 @@
 -- `block::sweeping_of` meets its contract.
 use Rattle.block.proofs.Moves.{whole-low, whole-sized, whole-swept}
-use borrow.Author.Rules.{rules}
 use Rattle.block.proofs.sweeping_of.Goals as goal
 
 pub work_of-work-requires : goal.work_of-work-requires

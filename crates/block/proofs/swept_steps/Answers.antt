@@ -1,17 +1,7 @@
-use mathlib.Core.Path.{◌≡◌, ◌∙◌}
-use mathlib.Core.Bool.{false}
-use mathlib.Core.List.{List}
-use Prim.Native.Nat.{◌-◌, ◌≤◌, ◌<◌}
+use mathlib.Core.Path.{◌∙◌}
+use Prim.Native.Nat.{◌<◌}
 use native.Mathlib.Omega.{arith}
-use lib.ListN.{length}
-use lib.Ieee.{Float}
-use Rattle.state.specs.declared.Signals.{Signals}
 use Rattle.model.specs.Chunks.{chunk_total}
-use Rattle.model.specs.World.{world_of}
-use Rattle.model.specs.Process.{chunk_steps}
-use Rattle.audio_rows.specs.Passes.{PreparedBy}
-use Rattle.block.specs.Moves.{moved_by, whole_of}
-use Rattle.block.specs.Scenes.{work_of}
 use Rattle.block.proofs.Blocks.{steps-more, steps_all}
 use Rattle.block.proofs.Moves.{chunk-within, chunk-ready, glides-fit, steps-begin, moved-world, only_step}
 use borrow.Author.Rules.{rules}

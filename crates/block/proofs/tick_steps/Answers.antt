@@ -1,7 +1,6 @@
 -- `block::tick_steps` meets its contract.
 use lib.Ieee.{of_bits}
 use Rattle.block.proofs.Steps.{steps-tick, steps-off}
-use borrow.Author.Rules.{rules}
 use Rattle.block.proofs.tick_steps.Goals as goal
 
 pub returns-then-phase-eq0 : goal.returns-then-phase-eq0

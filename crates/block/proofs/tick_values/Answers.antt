@@ -3,7 +3,6 @@ use native.Mathlib.Omega.{arith}
 use Rattle.lane_input.specs.Scene.{env_of}
 use Rattle.block.specs.Scenes.{scene_of}
 use Rattle.block.proofs.Steps.{scene-fits, is-tick, given}
-use borrow.Author.Rules.{rules}
 use Rattle.block.proofs.tick_values.Goals as goal
 
 pub tick-requires : goal.tick-requires

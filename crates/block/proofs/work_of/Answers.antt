@@ -1,5 +1,4 @@
 -- `block::work_of` meets its contract.
-use borrow.Author.Rules.{rules}
 use Rattle.block.proofs.work_of.Goals as goal
 
 pub returns : goal.returns

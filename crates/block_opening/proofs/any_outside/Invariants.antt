@@ -1,12 +1,8 @@
 -- `block_opening::any_outside` meets its contract. The invariant: whether any from i on is such a part says it of all.
-use mathlib.Core.Path.{◌≡◌, refl, sym, ◌∙◌}
+use mathlib.Core.Path.{◌≡◌}
 use Prim.Native.Nat.{◌≤◌, ◌-◌}
-use lib.ListN.{length, drop}
-use native.Mathlib.Omega.{arith}
-use Rattle.list.proofs.Elements.{length-mapped}
+use lib.ListN.{drop}
 use Rattle.model.specs.Process.{any_outside}
-use Rattle.block_opening.proofs.Codes.{no_part, out-here, out-next, out-end}
-use borrow.Author.Rules.{rules}
 use Rattle.block_opening.proofs.any_outside.Given as goal
 
 abbrev pub invariant-loop-i : goal.invariant-loop-i

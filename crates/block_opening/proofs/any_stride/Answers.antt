@@ -1,9 +1,7 @@
 use mathlib.Core.Path.{◌≡◌, refl, sym, ◌∙◌}
-use Prim.Native.Nat.{◌≤◌, ◌-◌}
-use lib.ListN.{length, drop}
+use lib.ListN.{length}
 use native.Mathlib.Omega.{arith}
 use Rattle.list.proofs.Elements.{length-mapped}
-use Rattle.model.specs.Process.{any_stride}
 use Rattle.block_opening.proofs.Codes.{no_part, stride-here, stride-next, stride-end}
 use borrow.Author.Rules.{rules}
 use Rattle.block_opening.proofs.any_stride.Goals as goal

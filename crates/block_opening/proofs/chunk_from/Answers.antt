@@ -1,7 +1,6 @@
 -- `block_opening::chunk_from` meets its contract.
 use native.Mathlib.Omega.{arith}
 use Rattle.layout.proofs.Bounds.{product-bound}
-use borrow.Author.Rules.{rules}
 use Rattle.block_opening.proofs.chunk_from.Goals as goal
 
 pub overflow_mul-result-2 : goal.overflow_mul-result-2

@@ -2,7 +2,6 @@
 use Prim.Native.Nat.{◌+◌}
 use native.Mathlib.Omega.{arith}
 use Rattle.layout.proofs.Bounds.{product-bound}
-use borrow.Author.Rules.{rules}
 use Rattle.block_opening.proofs.chunk_to.Goals as goal
 
 pub overflow_mul-result : goal.overflow_mul-result

@@ -1,5 +1,4 @@
 -- `block_opening::draw_after` meets its contract.
-use borrow.Author.Rules.{rules}
 use Rattle.block_opening.proofs.draw_after.Goals as goal
 
 pub returns-then-on : goal.returns-then-on

@@ -1,6 +1,5 @@
 -- `block_opening::draw_aux` meets its contract.
 use Rattle.block_opening.specs.Draws.{drawn_aux}
-use borrow.Author.Rules.{rules}
 use Rattle.block_opening.proofs.draw_aux.Goals as goal
 
 pub returns-in-Missing : goal.returns-in-Missing

@@ -1,6 +1,5 @@
 -- `block_opening::draw_read` meets its contract.
 use Rattle.block_opening.specs.Draws.{drawn_read}
-use borrow.Author.Rules.{rules}
 use Rattle.block_opening.proofs.draw_read.Goals as goal
 
 pub returns-in-Signal : goal.returns-in-Signal

@@ -2,7 +2,6 @@
 use mathlib.Core.Path.{ap, ◌∙◌}
 use Prim.Native.Nat.{◌+◌}
 use Rattle.block_opening.specs.Draws.{drawn_aux}
-use borrow.Author.Rules.{rules}
 use Rattle.block_opening.proofs.draw_route.Goals as goal
 
 pub returns : goal.returns

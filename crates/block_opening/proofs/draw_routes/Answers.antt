@@ -1,9 +1,7 @@
 use mathlib.Core.Path.{◌≡◌, refl, sym, ◌∙◌}
-use Prim.Native.Nat.{◌≤◌, ◌-◌}
 use native.Mathlib.Omega.{arith}
 use lib.ListN.{length}
 use Rattle.list.proofs.Elements.{length-mapped}
-use Rattle.block_opening.specs.Draws.{drawn_routes}
 use Rattle.block_opening.proofs.Draws.{drawn_of, routes-none, routes-more, randoms-inside}
 use borrow.Author.Rules.{rules}
 use Rattle.block_opening.proofs.draw_routes.Goals as goal

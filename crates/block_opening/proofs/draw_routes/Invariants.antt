@@ -1,12 +1,9 @@
 -- `block_opening::draw_routes` meets its contract. The invariant: the first r routes have had their turn.
-use mathlib.Core.Path.{◌≡◌, refl, sym, ◌∙◌}
+use mathlib.Core.Path.{◌≡◌}
 use Prim.Native.Nat.{◌≤◌, ◌-◌}
-use native.Mathlib.Omega.{arith}
 use lib.ListN.{length}
-use Rattle.list.proofs.Elements.{length-mapped}
 use Rattle.block_opening.specs.Draws.{drawn_routes}
-use Rattle.block_opening.proofs.Draws.{drawn_of, routes-none, routes-more, randoms-inside}
-use borrow.Author.Rules.{rules}
+use Rattle.block_opening.proofs.Draws.{drawn_of}
 use Rattle.block_opening.proofs.draw_routes.Given as goal
 
 abbrev pub invariant-loop-r : goal.invariant-loop-r

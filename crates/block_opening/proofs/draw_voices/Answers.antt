@@ -1,8 +1,6 @@
 use mathlib.Core.Path.{◌≡◌, refl, sym, ◌∙◌}
-use Prim.Native.Nat.{◌≤◌, ◌-◌}
 use native.Mathlib.Omega.{arith}
-use lib.ListN.{length, length-set}
-use Rattle.block_opening.specs.Draws.{drawn_voices}
+use lib.ListN.{length-set}
 use Rattle.block_opening.proofs.Draws.{drawn_of, drawn-none, drawn-more}
 use borrow.Author.Rules.{rules}
 use Rattle.block_opening.proofs.draw_voices.Goals as goal

@@ -1,11 +1,9 @@
 -- `block_opening::draw_voices` meets its contract. The invariant: the first v voices have had their turn.
-use mathlib.Core.Path.{◌≡◌, refl, sym, ◌∙◌}
+use mathlib.Core.Path.{◌≡◌}
 use Prim.Native.Nat.{◌≤◌, ◌-◌}
-use native.Mathlib.Omega.{arith}
-use lib.ListN.{length, length-set}
+use lib.ListN.{length}
 use Rattle.block_opening.specs.Draws.{drawn_voices}
-use Rattle.block_opening.proofs.Draws.{drawn_of, drawn-none, drawn-more}
-use borrow.Author.Rules.{rules}
+use Rattle.block_opening.proofs.Draws.{drawn_of}
 use Rattle.block_opening.proofs.draw_voices.Given as goal
 
 abbrev pub invariant-loop-v : goal.invariant-loop-v

@@ -1,5 +1,4 @@
 -- `block_opening::drawn_lane` meets its contract.
-use borrow.Author.Rules.{rules}
 use Rattle.block_opening.proofs.drawn_lane.Goals as goal
 
 pub returns-then-on : goal.returns-then-on

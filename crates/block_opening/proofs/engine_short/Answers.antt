@@ -3,7 +3,6 @@ use mathlib.Core.Path.{ap}
 use lib.Dec.{ltb}
 use Rattle.block_opening.specs.Codes.{engine_short_by}
 use Rattle.block_opening.proofs.Codes.{engine-first, short-second, short-third}
-use borrow.Author.Rules.{rules}
 use Rattle.block_opening.proofs.engine_short.Goals as goal
 
 pub returns-then-lent-held_need : goal.returns-then-lent-held_need

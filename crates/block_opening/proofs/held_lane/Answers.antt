@@ -1,6 +1,5 @@
 -- `block_opening::held_lane` meets its contract.
 use mathlib.Core.Path.{sym, ◌∙◌}
-use borrow.Author.Rules.{rules}
 use Rattle.block_opening.proofs.held_lane.Goals as goal
 
 pub returns-then-passes : goal.returns-then-passes

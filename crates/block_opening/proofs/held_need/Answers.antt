@@ -1,7 +1,6 @@
 -- `block_opening::held_need` meets its contract.
 use native.Mathlib.Omega.{arith}
 use Rattle.layout.proofs.Bounds.{product-bound, stride-bound}
-use borrow.Author.Rules.{rules}
 use Rattle.block_opening.proofs.held_need.Goals as goal
 
 pub overflow_mul-result : goal.overflow_mul-result

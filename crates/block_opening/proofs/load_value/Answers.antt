@@ -1,7 +1,6 @@
 -- `block_opening::load_value` meets its contract.
 use lib.Ieee.{of_bits}
 use Rattle.block_opening.proofs.Marks.{load-steps}
-use borrow.Author.Rules.{rules}
 use Rattle.block_opening.proofs.load_value.Goals as goal
 
 pub returns : goal.returns

@@ -1,11 +1,9 @@
 use mathlib.Core.Path.{◌≡◌, refl, sym, ◌∙◌}
-use Prim.Native.Nat.{◌≤◌, ◌-◌}
 use native.Mathlib.Omega.{arith}
 use lib.ListN.{length}
-use borrow.Author.Tests.{not-true}
 use Rattle.voice.specs.Notes.{gliding}
 use Rattle.list.proofs.Elements.{length-mapped}
-use Rattle.block_opening.specs.Marks.{moved_if, passes}
+use Rattle.block_opening.specs.Marks.{passes}
 use Rattle.block_opening.proofs.Marks.{moved_none, moved_more, moved-still}
 use borrow.Author.Rules.{rules}
 use Rattle.block_opening.proofs.moved_held.Goals as goal

@@ -1,14 +1,8 @@
 -- `block_opening::moved_held` meets its contract. The invariant: the first v voices have had their turn.
-use mathlib.Core.Path.{◌≡◌, refl, sym, ◌∙◌}
+use mathlib.Core.Path.{◌≡◌}
 use Prim.Native.Nat.{◌≤◌, ◌-◌}
-use native.Mathlib.Omega.{arith}
 use lib.ListN.{length}
-use borrow.Author.Tests.{not-true}
-use Rattle.voice.specs.Notes.{gliding}
-use Rattle.list.proofs.Elements.{length-mapped}
 use Rattle.block_opening.specs.Marks.{moved_if, passes}
-use Rattle.block_opening.proofs.Marks.{moved_none, moved_more, moved-still}
-use borrow.Author.Rules.{rules}
 use Rattle.block_opening.proofs.moved_held.Given as goal
 
 abbrev pub invariant-loop-v : goal.invariant-loop-v

@@ -3,7 +3,6 @@ use mathlib.Core.Path.{refl}
 use Prim.Native.Nat.{◌+◌, ◌*◌}
 use native.Mathlib.Omega.{arith}
 use Rattle.layout.proofs.Bounds.{product-bound}
-use borrow.Author.Rules.{rules}
 use Rattle.block_opening.proofs.plan_size.Goals as goal
 
 pub overflow_mul-result-2 : goal.overflow_mul-result-2

@@ -3,7 +3,6 @@ use mathlib.Core.Path.{ap}
 use Prim.Native.Nat.{ℕ, ◌*◌}
 use native.Mathlib.Omega.{arith}
 use Rattle.layout.proofs.Bounds.{product-bound}
-use borrow.Author.Rules.{rules}
 use Rattle.block_opening.proofs.plan_start.Goals as goal
 
 pub overflow_mul-result : goal.overflow_mul-result

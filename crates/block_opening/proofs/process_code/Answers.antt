@@ -4,7 +4,6 @@ use mathlib.Core.Bool.{true, false}
 use Rattle.model.specs.Process.{any_outside}
 use Rattle.block_opening.specs.Codes.{engine_short_by, program_short_by}
 use Rattle.block_opening.proofs.Codes.{code-1, code-13, code-14, code-0}
-use borrow.Author.Rules.{rules}
 use Rattle.block_opening.proofs.process_code.Goals as goal
 
 pub returns-then-at_most-end : goal.returns-then-at_most-end

@@ -1,7 +1,6 @@
 -- `block_opening::program_short` meets its contract.
 use Rattle.block_opening.specs.Codes.{program_short_by}
 use Rattle.block_opening.proofs.Codes.{program-first, short-second, short-third}
-use borrow.Author.Rules.{rules}
 use Rattle.block_opening.proofs.program_short.Goals as goal
 
 pub returns-then-lent-values_need : goal.returns-then-lent-values_need

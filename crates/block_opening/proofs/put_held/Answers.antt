@@ -1,9 +1,9 @@
 use mathlib.Core.Path.{◌≡◌, refl, sym, ◌∙◌}
-use Prim.Native.Nat.{◌+◌, ◌*◌, ◌≤◌, ◌<◌, ◌-◌}
+use Prim.Native.Nat.{◌+◌, ◌*◌, ◌<◌}
 use native.Mathlib.Omega.{arith}
 use lib.ListN.{length, length-set}
 use lib.Ieee.{nan}
-use Rattle.block_opening.specs.Marks.{held_if, passes}
+use Rattle.block_opening.specs.Marks.{passes}
 use Rattle.block_opening.proofs.Marks.{held_none, held_more, place_inside}
 use borrow.Author.Rules.{rules}
 use Rattle.block_opening.proofs.put_held.Goals as goal

@@ -1,12 +1,8 @@
 -- `block_opening::put_held` meets its contract. The invariant: the first i sources have had their turn.
-use mathlib.Core.Path.{◌≡◌, refl, sym, ◌∙◌}
-use Prim.Native.Nat.{◌+◌, ◌*◌, ◌≤◌, ◌<◌, ◌-◌}
-use native.Mathlib.Omega.{arith}
-use lib.ListN.{length, length-set}
-use lib.Ieee.{nan}
+use mathlib.Core.Path.{◌≡◌}
+use Prim.Native.Nat.{◌≤◌, ◌-◌}
+use lib.ListN.{length}
 use Rattle.block_opening.specs.Marks.{held_if, passes}
-use Rattle.block_opening.proofs.Marks.{held_none, held_more, place_inside}
-use borrow.Author.Rules.{rules}
 use Rattle.block_opening.proofs.put_held.Given as goal
 
 abbrev pub invariant-loop-i : goal.invariant-loop-i

@@ -1,7 +1,5 @@
 -- `block_opening::put_moved` meets its contract.
 use mathlib.Core.Path.{sym, ◌∙◌}
-use borrow.Author.Tests.{not-true, not-false}
-use borrow.Author.Rules.{rules}
 use Rattle.block_opening.proofs.put_moved.Goals as goal
 
 pub returns-then-not-is_moving : goal.returns-then-not-is_moving

@@ -5,7 +5,6 @@ use native.Mathlib.Omega.{arith}
 use lib.ListN.{length}
 use Rattle.model.specs.Layout.{plan_size}
 use Rattle.block_opening.proofs.Rows.{from-inside, to_inside, rows_inside, to-after, row-steps}
-use borrow.Author.Rules.{rules}
 use Rattle.block_opening.proofs.row_of_chunk.Goals as goal
 
 pub copy_within-requires : goal.copy_within-requires
@@ -33,4 +32,4 @@ pub returns : goal.returns
 returns c =
     let a = c.args in
     let p = c.requires in
-    row-steps a.stride a.chunks a.w a.i a.d a.values.now _ _ _ _ _ p.2 p.3 p.5 c.plan_start-start.ensures.0 c.chunk_from-from.ensures c.chunk_to-to.ensures c.copy_within.auto.0 c.copy_within.ensures c.copy_within-2.ensures
+    row-steps a.stride a.chunks a.w a.i a.d a.values.now _ _ _ _ _ p.2 p.3 p.5 c.plan_start-start.ensures.0 c.chunk_from-from.ensures c.chunk_to-to.ensures c.copy_within.auto.mem c.copy_within.ensures c.copy_within-2.ensures

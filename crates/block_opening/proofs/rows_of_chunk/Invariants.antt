@@ -1,14 +1,8 @@
 -- `block_opening::rows_of_chunk` meets its contract. The invariant: the first d plans have had their turn.
-use mathlib.Core.Path.{◌≡◌, refl, sym, ◌∙◌}
+use mathlib.Core.Path.{◌≡◌}
 use Prim.Native.Nat.{◌≤◌, ◌-◌}
-use native.Mathlib.Omega.{arith}
 use lib.ListN.{length}
-use Rattle.list.proofs.Elements.{length-mapped}
-use Rattle.list.proofs.Rows.{row_inside}
-use Rattle.model.specs.Layout.{plan_size}
 use Rattle.block_opening.specs.Rows.{chunk_rows}
-use Rattle.block_opening.proofs.Rows.{rows_none, rows_more}
-use borrow.Author.Rules.{rules}
 use Rattle.block_opening.proofs.rows_of_chunk.Given as goal
 
 abbrev pub invariant-loop-d : goal.invariant-loop-d

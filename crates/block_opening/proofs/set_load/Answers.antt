@@ -1,9 +1,7 @@
 use mathlib.Core.Path.{◌≡◌, refl, sym, ◌∙◌}
-use Prim.Native.Nat.{◌≤◌, ◌-◌}
 use native.Mathlib.Omega.{arith}
-use lib.ListN.{length, length-set}
+use lib.ListN.{length-set}
 use lib.Ieee.{nan}
-use Rattle.block_opening.specs.Marks.{load_if}
 use Rattle.block_opening.proofs.Marks.{load-none, load-more}
 use borrow.Author.Rules.{rules}
 use Rattle.block_opening.proofs.set_load.Goals as goal

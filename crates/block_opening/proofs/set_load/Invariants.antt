@@ -1,12 +1,8 @@
 -- `block_opening::set_load` meets its contract. The invariant: the first i sources have had their turn.
-use mathlib.Core.Path.{◌≡◌, refl, sym, ◌∙◌}
+use mathlib.Core.Path.{◌≡◌}
 use Prim.Native.Nat.{◌≤◌, ◌-◌}
-use native.Mathlib.Omega.{arith}
-use lib.ListN.{length, length-set}
-use lib.Ieee.{nan}
+use lib.ListN.{length}
 use Rattle.block_opening.specs.Marks.{load_if}
-use Rattle.block_opening.proofs.Marks.{load-none, load-more}
-use borrow.Author.Rules.{rules}
 use Rattle.block_opening.proofs.set_load.Given as goal
 
 abbrev pub invariant-loop-i : goal.invariant-loop-i

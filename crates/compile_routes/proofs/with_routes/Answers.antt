@@ -18,7 +18,7 @@ loop-i-preserved c =
     let a = c.args in
     let e : length a.readers.at ≡ slots = search (rules, length-mapped) in (
       search rules,
-      laid_next a.rate a.sources (numbers_in a.order) a.slot a.dest-voice a.d a.readers _ e l.i _ l.out _ (omega arith) l.invariant.1
+      laid_next a.rate a.sources (numbers_in a.order) a.slot a.dest_voice a.d a.readers _ e l.i _ l.out _ (omega arith) l.invariant.1
           c.with_route-next.ensures,
     )
 
@@ -27,4 +27,4 @@ returns c =
     let l = c.loop-i in
     let a = c.args in
     let e : length a.readers.at ≡ slots = search (rules, length-mapped) in
-    laid-all a.rate a.sources (numbers_in a.order) a.slot a.dest-voice a.d a.readers _ e l.i l.out (omega arith) l.invariant.1
+    laid-all a.rate a.sources (numbers_in a.order) a.slot a.dest_voice a.d a.readers _ e l.i l.out (omega arith) l.invariant.1

@@ -16,7 +16,8 @@ returns-then-same_target c =
     let l = c.loop-i in
     let ds = c.args.dests in
     let e : length ds.entry ≡ most_destinations = search (rules, length-mapped) in
-    find-said ds _ _ (sym (searched-here ds _ l.i unread e l.invariant.1 (omega arith) (sym c.same_target.ensures ∙ c.if-same_target.true)))
+    let said = find-said ds c.args.target _ (sym (searched-here ds _ l.i unread e l.invariant.1 (omega arith) (sym c.same_target.ensures ∙ c.if-same_target.true))) in
+    record { value = said.0; reply = said.1 }
 
 pub loop-i-preserved : goal.loop-i-preserved
 loop-i-preserved c =
@@ -30,4 +31,5 @@ returns c =
     let l = c.loop-i in
     let ds = c.args.dests in
     let e : length ds.entry ≡ most_destinations = search (rules, length-mapped) in
-    find-said ds _ _ (sym (searched-all ds _ l.i unread e l.invariant.1 (omega arith)))
+    let said = find-said ds c.args.target _ (sym (searched-all ds _ l.i unread e l.invariant.1 (omega arith))) in
+    record { value = said.0; reply = said.1 }

@@ -12,10 +12,12 @@ pub returns-then-id-len : goal.returns-then-id-len
 returns-then-id-len c =
     let ds = c.args.dests in
     let e : length ds.entry ≡ most_destinations = search (rules, length-mapped) in
-    get-said ds _ _ (sym (get-known ds _ _ e (omega arith)))
+    let said = get-said ds c.args.id _ (sym (get-known ds c.args.id _ e (omega arith))) in
+    record { value = said.0; reply = said.1 }
 
 pub returns : goal.returns
 returns c =
     let ds = c.args.dests in
     let e : length ds.entry ≡ most_destinations = search (rules, length-mapped) in
-    get-said ds _ _ (sym (get_none ds _ e (omega arith)))
+    let said = get-said ds c.args.id _ (sym (get_none ds c.args.id e (omega arith))) in
+    record { value = said.0; reply = said.1 }

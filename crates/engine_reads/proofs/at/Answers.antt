@@ -18,14 +18,14 @@ returns-then-not-spot c =
     let a = c.args in
     let e = same_code (voice_row a.state a.voice) c.code-code.ensures c.audio_short.ensures in
     let s = c.spot_of-spot in
-    at_none a.state a.audio.now a.dest a.frame a.voice e c.if-code-ne0.false s.result s.ensures (c.if-not-spot.true)
+    at_none a.state a.audio.now a.dest a.frame a.voice e c.if-code-ne0.false s.result s.ensures (not-true _ c.if-not-spot.true)
 
 pub returns-then-frame_count-frame : goal.returns-then-frame_count-frame
 returns-then-frame_count-frame c =
     let a = c.args in
     let e = same_code (voice_row a.state a.voice) c.code-code.ensures c.audio_short.ensures in
     let s = c.spot_of-spot in
-    at-past a.state a.audio.now a.dest a.frame a.voice e c.if-code-ne0.false s.result s.ensures (c.if-not-spot.false) (omega (arith, c.frame_count.ensures))
+    at-past a.state a.audio.now a.dest a.frame a.voice e c.if-code-ne0.false s.result s.ensures (not-false _ c.if-not-spot.false) (omega (arith, c.frame_count.ensures))
 
 pub number_of-requires : goal.number_of-requires
 number_of-requires c =
@@ -40,4 +40,4 @@ returns c =
     let a = c.args in
     let e = same_code (voice_row a.state a.voice) c.code-code.ensures c.audio_short.ensures in
     let s = c.spot_of-spot in
-    at_value a.state a.audio.now a.dest a.frame a.voice e c.if-code-ne0.false s.result s.ensures (c.if-not-spot.false) (omega (arith, c.frame_count.ensures)) c.number_of.ensures
+    at_value a.state a.audio.now a.dest a.frame a.voice e c.if-code-ne0.false s.result s.ensures (not-false _ c.if-not-spot.false) (omega (arith, c.frame_count.ensures)) c.number_of.ensures

@@ -18,13 +18,13 @@ pub returns-then-not-spot : goal.returns-then-not-spot
 returns-then-not-spot c =
     let a = c.args in
     let s = c.spot_of-spot in
-    both c.none-then-not-spot.ensures (no-frame a.state a.audio.now a.dest (sym c.audio_short.ensures ∙ c.if-audio_short.false) s.result s.ensures (c.if-not-spot.true) a.frame)
+    both c.none-then-not-spot.ensures (no-frame a.state a.audio.now a.dest (sym c.audio_short.ensures ∙ c.if-audio_short.false) s.result s.ensures (not-true _ c.if-not-spot.true) a.frame)
 
 pub returns-then-frame_count-frame : goal.returns-then-frame_count-frame
 returns-then-frame_count-frame c =
     let a = c.args in
     let s = c.spot_of-spot in
-    both c.none-then-frame_count-frame.ensures (frame_past a.state a.audio.now a.dest (sym c.audio_short.ensures ∙ c.if-audio_short.false) s.result s.ensures (c.if-not-spot.false) a.frame (omega (arith, c.frame_count.ensures)))
+    both c.none-then-frame_count-frame.ensures (frame_past a.state a.audio.now a.dest (sym c.audio_short.ensures ∙ c.if-audio_short.false) s.result s.ensures (not-false _ c.if-not-spot.false) a.frame (omega (arith, c.frame_count.ensures)))
 
 pub row_start-requires : goal.row_start-requires
 row_start-requires c =
@@ -40,4 +40,4 @@ returns c =
     let r = s.result in
     let m = a.audio.now in
     both (c.part.ensures ∙ ap (λ (n : ℕ). part m n (n + r.width)) c.row_start.ensures)
-    (frame_is a.state a.audio.now a.dest (sym c.audio_short.ensures ∙ c.if-audio_short.false) r s.ensures (c.if-not-spot.false) a.frame (omega (arith, c.frame_count.ensures)))
+    (frame_is a.state a.audio.now a.dest (sym c.audio_short.ensures ∙ c.if-audio_short.false) r s.ensures (not-false _ c.if-not-spot.false) a.frame (omega (arith, c.frame_count.ensures)))

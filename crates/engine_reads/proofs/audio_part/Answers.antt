@@ -15,7 +15,7 @@ pub returns-then-not-spot : goal.returns-then-not-spot
 returns-then-not-spot c =
     let a = c.args in
     let s = c.spot_of-spot in
-    both c.none-then-not-spot.ensures (no-audio a.state a.audio.now a.dest (sym c.audio_short.ensures ∙ c.if-audio_short.false) s.result s.ensures (c.if-not-spot.true))
+    both c.none-then-not-spot.ensures (no-audio a.state a.audio.now a.dest (sym c.audio_short.ensures ∙ c.if-audio_short.false) s.result s.ensures (not-true _ c.if-not-spot.true))
 
 pub rows-requires : goal.rows-requires
 rows-requires c =
@@ -27,4 +27,4 @@ pub returns : goal.returns
 returns c =
     let a = c.args in
     let s = c.spot_of-spot in
-    both c.rows.ensures (audio-part-is a.state a.audio.now a.dest (sym c.audio_short.ensures ∙ c.if-audio_short.false) s.result s.ensures (c.if-not-spot.false) c.frame_count.ensures)
+    both c.rows.ensures (audio-part-is a.state a.audio.now a.dest (sym c.audio_short.ensures ∙ c.if-audio_short.false) s.result s.ensures (not-false _ c.if-not-spot.false) c.frame_count.ensures)

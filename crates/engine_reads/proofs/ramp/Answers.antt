@@ -26,7 +26,7 @@ returns-then-not-spot c =
     let a = c.args in
     let e = same_code (voice_row a.state a.voice) c.code-code.ensures c.ramp_short.ensures in
     let s = c.spot_of-spot in
-    let m = ramp-none a.state a.values.now a.dest a.voice a.out.now e c.if-code-ne0.false s.result s.ensures (c.if-not-spot.true) in
+    let m = ramp-none a.state a.values.now a.dest a.voice a.out.now e c.if-code-ne0.false s.result s.ensures (not-true _ c.if-not-spot.true) in
     (ap (λ (x : RampWritten). x.answer) m, ap (λ (x : RampWritten). x.out) m)
 
 pub write_ramp-requires : goal.write_ramp-requires
@@ -46,5 +46,5 @@ returns c =
     let z = c.if-code-ne0.false in
     let r = s.result in
     let f = c.frames_of-frames.ensures in
-    let m = ramp-filled a.state a.values.now a.dest a.voice a.out.now e z r s.ensures (c.if-not-spot.false) (ramp-room a.state a.values.now a.dest a.voice a.out.now e z) in
+    let m = ramp-filled a.state a.values.now a.dest a.voice a.out.now e z r s.ensures (not-false _ c.if-not-spot.false) (ramp-room a.state a.values.now a.dest a.voice a.out.now e z) in
     (ap M.Filled f ∙ ap (λ (x : RampWritten). x.answer) m, c.write_ramp.ensures ∙ ap (fill a.out.now (frame_number a.state a.values.now a.dest a.voice r s.ensures)) f ∙ ap (λ (x : RampWritten). x.out) m)

@@ -16,7 +16,7 @@ pub returns-then-not-spot : goal.returns-then-not-spot
 returns-then-not-spot c =
     let a = c.args in
     let s = c.spot_of-spot in
-    both c.none-then-not-spot.ensures (no-to a.state a.values.now a.dest (sym c.values_short.ensures ∙ c.if-values_short.false) s.result s.ensures (c.if-not-spot.true))
+    both c.none-then-not-spot.ensures (no-to a.state a.values.now a.dest (sym c.values_short.ensures ∙ c.if-values_short.false) s.result s.ensures (not-true _ c.if-not-spot.true))
 
 pub rows-requires : goal.rows-requires
 rows-requires c =
@@ -29,4 +29,4 @@ unfolding chunk_count
 returns c =
     let a = c.args in
     let s = c.spot_of-spot in
-    both c.rows.ensures (to-part-is a.state a.values.now a.dest (sym c.values_short.ensures ∙ c.if-values_short.false) s.result s.ensures (c.if-not-spot.false) c.chunk_count.ensures)
+    both c.rows.ensures (to-part-is a.state a.values.now a.dest (sym c.values_short.ensures ∙ c.if-values_short.false) s.result s.ensures (not-false _ c.if-not-spot.false) c.chunk_count.ensures)

@@ -19,7 +19,7 @@ returns-then-not-spot c =
     let a = c.args in
     let e = same_code (voice_row a.state a.voice) c.code-code.ensures c.values_short.ensures in
     let s = c.spot_of-spot in
-    value_none a.state a.values.now a.dest a.chunk a.voice e c.if-code-ne0.false s.result s.ensures (c.if-not-spot.true)
+    value_none a.state a.values.now a.dest a.chunk a.voice e c.if-code-ne0.false s.result s.ensures (not-true _ c.if-not-spot.true)
 
 pub returns-then-chunk_count-chunk : goal.returns-then-chunk_count-chunk
 unfolding chunk_count
@@ -27,7 +27,7 @@ returns-then-chunk_count-chunk c =
     let a = c.args in
     let e = same_code (voice_row a.state a.voice) c.code-code.ensures c.values_short.ensures in
     let s = c.spot_of-spot in
-    value-past a.state a.values.now a.dest a.chunk a.voice e c.if-code-ne0.false s.result s.ensures (c.if-not-spot.false) (omega (arith, c.chunk_count.ensures))
+    value-past a.state a.values.now a.dest a.chunk a.voice e c.if-code-ne0.false s.result s.ensures (not-false _ c.if-not-spot.false) (omega (arith, c.chunk_count.ensures))
 
 pub number_of-requires : goal.number_of-requires
 number_of-requires c =
@@ -43,4 +43,4 @@ returns c =
     let a = c.args in
     let e = same_code (voice_row a.state a.voice) c.code-code.ensures c.values_short.ensures in
     let s = c.spot_of-spot in
-    value-value a.state a.values.now a.dest a.chunk a.voice e c.if-code-ne0.false s.result s.ensures (c.if-not-spot.false) (omega (arith, c.chunk_count.ensures)) c.number_of.ensures
+    value-value a.state a.values.now a.dest a.chunk a.voice e c.if-code-ne0.false s.result s.ensures (not-false _ c.if-not-spot.false) (omega (arith, c.chunk_count.ensures)) c.number_of.ensures

@@ -3,7 +3,7 @@ use mathlib.Core.Path.{◌≡◌}
 use mathlib.Core.Bool.{Bool, true, ◌&&◌}
 use lib.Dec.{eqb}
 use lib.Ieee.{eq}
-use borrow.Author.Tests.{eq-eqb, ne_eqb, not-true, not-false}
+use borrow.Author.Tests.{eq-eqb, ne_eqb}
 use Rattle.engine_settings.proofs.same_config.Goals as goal
 
 -- where the first two hold, the last decides
@@ -11,13 +11,13 @@ last : (p q r : Bool) → p ≡ true → q ≡ true → r ≡ (p && (q && r))
 last p q r h k = rw (h, k)
 
 pub returns-then-not-same : goal.returns-then-not-same
-returns-then-not-same c = simp (not-true (eq c.args.a.sample_rate c.args.b.sample_rate) c.if-not-same.true)
+returns-then-not-same c = simp c.if-not-same.true
 
 pub returns-then-a-b : goal.returns-then-a-b
-returns-then-a-b c = simp (not-false (eq c.args.a.sample_rate c.args.b.sample_rate) c.if-not-same.false, ne_eqb _ _ c.if-a-b.true)
+returns-then-a-b c = simp (c.if-not-same.false, ne_eqb _ _ c.if-a-b.true)
 
 pub returns : goal.returns
 returns c =
     let a = c.args.a in
     let b = c.args.b in
-    last (eq a.sample_rate b.sample_rate) (eqb a.max_frames b.max_frames) (eqb a.voices b.voices) (not-false (eq a.sample_rate b.sample_rate) c.if-not-same.false) (eq-eqb a.max_frames b.max_frames c.if-a-b.false)
+    last (eq a.sample_rate b.sample_rate) (eqb a.max_frames b.max_frames) (eqb a.voices b.voices) c.if-not-same.false (eq-eqb a.max_frames b.max_frames c.if-a-b.false)

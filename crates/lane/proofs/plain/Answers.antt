@@ -14,8 +14,8 @@ returns-then-not-sounds c = λ t so e d p. rw (c.if-not-voice.false, ← so, c.i
 
 pub returns-then-not-route : goal.returns-then-not-route
 unfolding plain
-returns-then-not-route c = λ t so e d p. rw (c.if-not-voice.false, ← so, c.if-not-sounds.false, c.if-not-route.true)
+returns-then-not-route c = λ t so e d p. rw (c.if-not-voice.false, ← so, c.if-not-sounds.false, not-true _ c.if-not-route.true)
 
 pub returns : goal.returns
 unfolding plain
-returns c = λ t so e d p. rw (c.if-not-voice.false, ← so, c.if-not-sounds.false, c.if-not-route.false) (c.rowed.ensures t e d p)
+returns c = λ t so e d p. rw (c.if-not-voice.false, ← so, c.if-not-sounds.false, not-false _ c.if-not-route.false) (c.rowed.ensures t e d p)

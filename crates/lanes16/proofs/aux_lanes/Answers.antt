@@ -1,8 +1,7 @@
 -- `lanes16::aux_lanes` meets its contract.
-use mathlib.Core.Path.{◌≡◌, refl, sym, ap, ◌∙◌}
+use mathlib.Core.Path.{◌∙◌}
 use Prim.Native.Nat.{◌+◌}
 use Rattle.lanes16.proofs.Laws.{aux-is}
-use borrow.Author.Rules.{rules}
 use Rattle.lanes16.proofs.aux_lanes.Goals as goal
 
 pub returns-in-Missing : goal.returns-in-Missing

@@ -1,6 +1,4 @@
 -- `lanes16::aux_times` meets its contract.
-use mathlib.Core.Path.{◌≡◌, refl, sym, ap, ◌∙◌}
-use borrow.Author.Rules.{rules}
 use Rattle.lanes16.proofs.aux_times.Goals as goal
 
 pub returns-in-Missing : goal.returns-in-Missing

@@ -1,14 +1,11 @@
-use mathlib.Core.Path.{◌≡◌, refl}
-use Prim.Native.Nat.{ℕ, ◌-◌, ◌≤◌, ◌<◌}
+use mathlib.Core.Path.{refl}
+use Prim.Native.Nat.{◌<◌}
 use native.Mathlib.Omega.{arith}
 use lib.Dec.{le→leb}
-use lib.ListN.{length, get_or}
-use lib.Ieee.{Float, in_float}
-use Rattle.plan_sum.proofs.Lanes.{Laned, laned-none, laned-more}
+use lib.ListN.{get_or}
+use lib.Ieee.{in_float}
+use Rattle.plan_sum.proofs.Lanes.{laned-none, laned-more}
 use borrow.Author.Rules.{rules}
-use Rattle.model.specs.Counts.{at}
-use Rattle.number.specs.Number.{less, nearest32}
-use Rattle.curve_table.specs.Table.{between}
 use Rattle.lanes16.proofs.between_lanes.Goals as goal
 
 pub loop-l-init : goal.loop-l-init

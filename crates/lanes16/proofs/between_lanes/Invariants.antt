@@ -1,12 +1,9 @@
 -- `lanes16::between_lanes` meets its contract. The invariant: the lanes below l are done.
-use mathlib.Core.Path.{◌≡◌, refl}
-use Prim.Native.Nat.{ℕ, ◌-◌, ◌≤◌, ◌<◌}
-use native.Mathlib.Omega.{arith}
-use lib.Dec.{le→leb}
+use mathlib.Core.Path.{◌≡◌}
+use Prim.Native.Nat.{ℕ, ◌-◌, ◌≤◌}
 use lib.ListN.{length, get_or}
-use lib.Ieee.{Float, in_float}
-use Rattle.plan_sum.proofs.Lanes.{Laned, laned-none, laned-more}
-use borrow.Author.Rules.{rules}
+use lib.Ieee.{Float}
+use Rattle.plan_sum.proofs.Lanes.{Laned}
 use Rattle.model.specs.Counts.{at}
 use Rattle.number.specs.Number.{less, nearest32}
 use Rattle.curve_table.specs.Table.{between}

@@ -1,7 +1,7 @@
 use mathlib.Core.Path.{◌≡◌, ap, ◌∙◌}
-use Prim.Native.Nat.{ℕ, ◌-◌, ◌≤◌, ◌<◌}
+use Prim.Native.Nat.{ℕ}
 use native.Mathlib.Omega.{arith}
-use lib.ListN.{length, set, get_or, length-set}
+use lib.ListN.{length, set, length-set}
 use Rattle.number.specs.Number.{whole_part}
 use Rattle.curve_table.specs.Table.{cell_at}
 use Rattle.model.specs.Counts.{at}

@@ -1,12 +1,8 @@
-use mathlib.Core.Path.{◌≡◌, refl}
-use Prim.Native.Nat.{ℕ, ◌+◌, ◌-◌, ◌*◌, ◌≤◌, ◌<◌}
+use mathlib.Core.Path.{refl}
 use native.Mathlib.Omega.{arith}
-use lib.ListN.{length}
-use lib.Ieee.{Float, of_bits}
-use Rattle.plan_sum.proofs.Lanes.{Laned, laned-none, laned-more}
+use lib.Ieee.{of_bits}
+use Rattle.plan_sum.proofs.Lanes.{laned-none, laned-more}
 use borrow.Author.Rules.{rules}
-use mathlib.Core.Bool.{true}
-use Rattle.model.specs.RouteValue.{spread}
 use Rattle.lanes16.proofs.doubled_lanes.Goals as goal
 
 pub loop-l-init : goal.loop-l-init

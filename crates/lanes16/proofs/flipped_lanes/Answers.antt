@@ -1,6 +1,4 @@
 -- `lanes16::flipped_lanes` meets its contract.
-use borrow.Author.Tests.{not-true, not-false, leb-true, lt-ltb}
-use borrow.Author.Rules.{rules}
 use Rattle.lanes16.proofs.flipped_lanes.Goals as goal
 
 pub returns-then-not-invert : goal.returns-then-not-invert

@@ -1,7 +1,6 @@
 -- `lanes16::gain_lanes` meets its contract.
 use lib.ListN.{get_or-replicate}
 use lib.Ieee.{nan}
-use borrow.Author.Rules.{rules}
 use Rattle.lanes16.proofs.gain_lanes.Goals as goal
 
 pub returns-in-Live : goal.returns-in-Live

@@ -1,7 +1,6 @@
 -- `lanes16::input_lanes` meets its contract.
 use Prim.Native.Nat.{◌+◌}
 use Rattle.lane_input.proofs.Reading.{input_of}
-use borrow.Author.Rules.{rules}
 use Rattle.lanes16.proofs.input_lanes.Goals as goal
 
 pub returns : goal.returns

@@ -1,7 +1,6 @@
 -- `lanes16::look_lanes` meets its contract.
 use native.Mathlib.Omega.{arith}
 use lib.ListN.{get_or}
-use borrow.Author.Rules.{rules}
 use Rattle.model.specs.Counts.{at}
 use Rattle.lanes16.proofs.Cells.{looked}
 use Rattle.lanes16.proofs.look_lanes.Goals as goal

@@ -2,7 +2,6 @@
 use native.Mathlib.Omega.{arith}
 use lib.Ieee.{of_bits}
 use borrow.Author.Tests.{lt-ltb, le-ltb}
-use borrow.Author.Rules.{rules}
 use Rattle.lanes16.proofs.narrow.Goals as goal
 
 pub returns-then-p-wide : goal.returns-then-p-wide

@@ -1,14 +1,6 @@
-use mathlib.Core.Path.{◌≡◌}
-use mathlib.Core.Bool.{cond}
-use Prim.Native.Nat.{ℕ, ◌+◌, ◌-◌, ◌≤◌}
 use native.Mathlib.Omega.{arith}
-use lib.Dec.{ltb}
-use lib.ListN.{length}
-use lib.Ieee.{Float}
-use Rattle.number.specs.Number.{zero32}
-use Rattle.plan_sum.proofs.Lanes.{Laned, laned-none, laned-more}
+use Rattle.plan_sum.proofs.Lanes.{laned-none, laned-more}
 use borrow.Author.Rules.{rules}
-use Rattle.model.specs.Counts.{at}
 use Rattle.lanes16.proofs.narrow_lanes.Goals as goal
 
 pub loop-l-init : goal.loop-l-init

@@ -1,12 +1,10 @@
 -- `lanes16::own_each` meets its contract. The invariant: the lanes below l are done.
-use mathlib.Core.Path.{◌≡◌, refl}
-use Prim.Native.Nat.{ℕ, ◌+◌, ◌-◌, ◌*◌, ◌≤◌, ◌<◌}
-use native.Mathlib.Omega.{arith}
+use mathlib.Core.Path.{◌≡◌}
+use Prim.Native.Nat.{ℕ, ◌+◌, ◌-◌, ◌≤◌}
 use lib.ListN.{length}
-use lib.Ieee.{Float, of_bits}
-use Rattle.plan_sum.proofs.Lanes.{Laned, laned-none, laned-more}
-use borrow.Author.Rules.{rules}
-use Rattle.model.specs.Env.{Env, Rows, Own}
+use lib.Ieee.{Float}
+use Rattle.plan_sum.proofs.Lanes.{Laned}
+use Rattle.model.specs.Env.{Own}
 use Rattle.lane.specs.View.{IsOwn}
 use Rattle.lanes16.proofs.own_each.Given as goal
 

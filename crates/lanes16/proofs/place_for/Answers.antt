@@ -1,8 +1,6 @@
 -- `lanes16::place_for` meets its contract.
-use mathlib.Core.Path.{◌≡◌, refl, sym, ap, ◌∙◌}
 use Rattle.lanes16.specs.Told.{read_at}
 use Rattle.lanes16.proofs.Laws.{read_held, read-fed, read-own, read-signal}
-use borrow.Author.Rules.{rules}
 use Rattle.lanes16.proofs.place_for.Goals as goal
 
 pub returns-in-Signal : goal.returns-in-Signal

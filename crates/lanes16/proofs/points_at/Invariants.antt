@@ -1,11 +1,9 @@
 -- `lanes16::points_at` meets its contract. The invariant: the lanes below l are done.
-use mathlib.Core.Path.{◌≡◌, refl}
-use Prim.Native.Nat.{ℕ, ◌+◌, ◌-◌, ◌≤◌, ◌<◌}
-use native.Mathlib.Omega.{arith}
+use mathlib.Core.Path.{◌≡◌}
+use Prim.Native.Nat.{ℕ, ◌+◌, ◌-◌, ◌≤◌}
 use lib.ListN.{length, get_or}
 use lib.Ieee.{Float}
-use Rattle.plan_sum.proofs.Lanes.{Laned, laned-none, laned-more}
-use borrow.Author.Rules.{rules}
+use Rattle.plan_sum.proofs.Lanes.{Laned}
 use Rattle.model.specs.Counts.{at}
 use Rattle.lanes16.proofs.points_at.Given as goal
 

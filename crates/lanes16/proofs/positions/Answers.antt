@@ -1,11 +1,6 @@
-use mathlib.Core.Path.{◌≡◌, refl}
-use Prim.Native.Nat.{ℕ, ◌+◌, ◌-◌, ◌*◌, ◌≤◌, ◌<◌}
 use native.Mathlib.Omega.{arith}
-use lib.ListN.{length}
-use lib.Ieee.{Float, of_bits}
-use Rattle.plan_sum.proofs.Lanes.{Laned, laned-none, laned-more}
+use Rattle.plan_sum.proofs.Lanes.{laned-none, laned-more}
 use borrow.Author.Rules.{rules}
-use Rattle.curve_table.specs.Table.{position}
 use Rattle.lanes16.proofs.positions.Goals as goal
 
 pub loop-l-init : goal.loop-l-init

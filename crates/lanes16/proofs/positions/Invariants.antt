@@ -1,11 +1,9 @@
 -- `lanes16::positions` meets its contract. The invariant: the lanes below l are done.
-use mathlib.Core.Path.{◌≡◌, refl}
-use Prim.Native.Nat.{ℕ, ◌+◌, ◌-◌, ◌*◌, ◌≤◌, ◌<◌}
-use native.Mathlib.Omega.{arith}
+use mathlib.Core.Path.{◌≡◌}
+use Prim.Native.Nat.{ℕ, ◌-◌, ◌≤◌}
 use lib.ListN.{length}
-use lib.Ieee.{Float, of_bits}
-use Rattle.plan_sum.proofs.Lanes.{Laned, laned-none, laned-more}
-use borrow.Author.Rules.{rules}
+use lib.Ieee.{Float}
+use Rattle.plan_sum.proofs.Lanes.{Laned}
 use Rattle.curve_table.specs.Table.{position}
 use Rattle.lanes16.proofs.positions.Given as goal
 

@@ -1,9 +1,8 @@
 -- `lanes16::raw_lanes` meets its contract.
-use mathlib.Core.Path.{◌≡◌, refl, sym, ap, ◌∙◌}
+use mathlib.Core.Path.{sym, ◌∙◌}
 use Prim.Native.Nat.{◌+◌}
 use native.Mathlib.Omega.{arith}
 use native.Mathlib.Nat.{add_assoc}
-use borrow.Author.Rules.{rules}
 use Rattle.lanes16.proofs.raw_lanes.Goals as goal
 
 pub overflow_add-start : goal.overflow_add-start

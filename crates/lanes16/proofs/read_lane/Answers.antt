@@ -1,8 +1,7 @@
 -- `lanes16::read_lane` meets its contract.
-use mathlib.Core.Path.{◌≡◌, refl, sym, ap, ◌∙◌}
+use mathlib.Core.Path.{ap, ◌∙◌}
 use lib.Ieee.{Float}
 use Rattle.model.specs.Input.{read_in}
-use borrow.Author.Rules.{rules}
 use Rattle.lanes16.proofs.read_lane.Goals as goal
 
 pub returns : goal.returns

@@ -2,7 +2,6 @@
 use Prim.Native.Nat.{◌+◌}
 use Rattle.model.specs.RouteValue.{own_at}
 use Rattle.lane_input.proofs.Reading.{signal-read}
-use borrow.Author.Rules.{rules}
 use Rattle.lanes16.proofs.read_lanes.Goals as goal
 
 pub returns-in-Signal : goal.returns-in-Signal

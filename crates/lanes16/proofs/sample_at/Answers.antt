@@ -1,8 +1,7 @@
 -- `lanes16::sample_at` meets its contract.
 use mathlib.Core.List.{[]}
-use Prim.Native.Nat.{ℕ, ◌+◌, ◌<◌}
+use Prim.Native.Nat.{◌+◌}
 use Rattle.lanes16.proofs.Samples.{sample-narrow}
-use borrow.Author.Rules.{rules}
 use Rattle.lanes16.proofs.sample_at.Goals as goal
 
 pub narrow_lanes-requires : goal.narrow_lanes-requires

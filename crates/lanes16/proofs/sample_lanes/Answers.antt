@@ -1,4 +1,6 @@
 -- `lanes16::sample_lanes` meets its contract.
+use mathlib.Core.Path.{ap}
+use mathlib.Core.Bool.{not}
 use mathlib.Core.Path.{◌≡◌, refl, ◌∙◌}
 use mathlib.Core.Bool.{true, false}
 use Prim.Native.Nat.{◌+◌}
@@ -7,12 +9,11 @@ use lib.Ieee.{nan}
 use Rattle.model.specs.Env.{sample_in}
 use Rattle.lane_input.proofs.Tests.{was-true, was-false}
 use Rattle.lanes16.proofs.Samples.{sample-all}
-use borrow.Author.Rules.{rules}
 use Rattle.lanes16.proofs.sample_lanes.Goals as goal
 
 pub returns-then-not-voice : goal.returns-then-not-voice
 returns-then-not-voice c = let a = c.args in
-    let one : a.voice ≡ false = was-false refl c.if-not-voice.true in
+    let one : a.voice ≡ false = was-false refl (ap not c.if-not-voice.true) in
     λ l h.
     rw one
     (get_or-replicate 16 l c.sample_in-x.result nan h ∙ c.sample_in-x.ensures ∙ sample-all a.samples.now a.part a.frame 0 (a.lane + l))
@@ -22,7 +23,7 @@ sample_at-requires c = (λ h m. (c.signal_place-place.ensures h m).0, c.requires
 
 pub returns : goal.returns
 returns c = let a = c.args in
-    let each : a.voice ≡ true = was-true refl c.if-not-voice.false in
+    let each : a.voice ≡ true = was-true refl (ap not c.if-not-voice.false) in
     λ l h.
     rw each
     (c.sample_at.ensures

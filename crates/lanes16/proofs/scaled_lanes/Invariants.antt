@@ -1,12 +1,10 @@
 -- `lanes16::scaled_lanes` meets its contract. The invariant: the lanes below l are done.
-use mathlib.Core.Path.{◌≡◌, refl}
-use Prim.Native.Nat.{ℕ, ◌+◌, ◌-◌, ◌*◌, ◌≤◌, ◌<◌}
-use native.Mathlib.Omega.{arith}
+use mathlib.Core.Path.{◌≡◌}
+use Prim.Native.Nat.{ℕ, ◌-◌, ◌≤◌}
 use lib.ListN.{length}
-use lib.Ieee.{Float, of_bits}
-use Rattle.plan_sum.proofs.Lanes.{Laned, laned-none, laned-more}
-use borrow.Author.Rules.{rules}
-use Rattle.number.specs.Number.{one32, plus, less, times, nearest32}
+use lib.Ieee.{Float}
+use Rattle.plan_sum.proofs.Lanes.{Laned}
+use Rattle.number.specs.Number.{plus, times}
 use Rattle.lanes16.proofs.scaled_lanes.Given as goal
 
 abbrev pub invariant-loop-l : goal.invariant-loop-l

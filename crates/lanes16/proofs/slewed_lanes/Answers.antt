@@ -1,8 +1,7 @@
 -- `lanes16::slewed_lanes` meets its contract.
 use Prim.Native.Nat.{◌+◌}
 use native.Mathlib.Omega.{arith}
-use borrow.Author.Tests.{not-true, not-false, leb-true, lt-ltb}
-use borrow.Author.Rules.{rules}
+use borrow.Author.Tests.{lt-ltb}
 use Rattle.lanes16.proofs.slewed_lanes.Goals as goal
 
 pub returns-in-Free : goal.returns-in-Free

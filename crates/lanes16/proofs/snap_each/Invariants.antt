@@ -1,14 +1,11 @@
 -- `lanes16::snap_each` meets its contract. The invariant: the lanes below l are done.
-use mathlib.Core.Path.{◌≡◌, refl}
-use Prim.Native.Nat.{ℕ, ◌+◌, ◌-◌, ◌*◌, ◌≤◌, ◌<◌}
-use native.Mathlib.Omega.{arith}
+use mathlib.Core.Path.{◌≡◌}
+use Prim.Native.Nat.{ℕ, ◌+◌, ◌-◌, ◌≤◌}
 use lib.ListN.{length}
-use lib.Ieee.{Float, of_bits}
-use Rattle.plan_sum.proofs.Lanes.{Laned, laned-none, laned-more}
-use borrow.Author.Rules.{rules}
-use Rattle.model.specs.Env.{Env, Rows, Own}
-use mathlib.Core.Bool.{Bool, true}
-use mathlib.Core.List.{List}
+use lib.Ieee.{Float}
+use Rattle.plan_sum.proofs.Lanes.{Laned}
+use Rattle.model.specs.Env.{Env}
+use mathlib.Core.Bool.{true}
 use Rattle.model.specs.Lanes.{snap_of}
 use Rattle.lanes16.proofs.snap_each.Given as goal
 

@@ -1,9 +1,7 @@
 -- `lanes16::snap_lanes` meets its contract.
-use borrow.Author.Tests.{not-true, not-false, leb-true, lt-ltb}
 use lib.ListN.{get_or-replicate}
 use lib.Ieee.{nan, of_bits}
-use mathlib.Core.Path.{◌≡◌, refl, sym, ap, ◌∙◌}
-use borrow.Author.Rules.{rules}
+use mathlib.Core.Path.{◌∙◌}
 use Rattle.lanes16.proofs.snap_lanes.Goals as goal
 
 pub returns-then-not-snap : goal.returns-then-not-snap

@@ -1,8 +1,7 @@
 -- `lanes16::source_lanes` meets its contract.
-use mathlib.Core.Path.{◌≡◌, refl, sym, ap, ◌∙◌}
+use mathlib.Core.Path.{sym, ◌∙◌}
 use Prim.Native.Nat.{◌+◌}
 use Rattle.lanes16.proofs.Laws.{snap-to}
-use borrow.Author.Rules.{rules}
 use Rattle.lanes16.proofs.source_lanes.Goals as goal
 
 pub returns-then-is_bare : goal.returns-then-is_bare

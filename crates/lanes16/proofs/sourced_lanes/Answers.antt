@@ -1,10 +1,9 @@
 -- `lanes16::sourced_lanes` meets its contract.
-use mathlib.Core.Path.{◌≡◌, refl, sym, ap, ◌∙◌}
+use mathlib.Core.Path.{sym, ◌∙◌}
 use Rattle.lanes16.proofs.Laws.{sourced-raw, sourced-spread}
 use Prim.Native.Nat.{◌+◌}
 use Rattle.model.specs.RouteValue.{raw_in, source_in}
 use Rattle.number.specs.Number.{plus, times}
-use borrow.Author.Rules.{rules}
 use Rattle.lanes16.proofs.sourced_lanes.Goals as goal
 
 pub returns-then-is_bare : goal.returns-then-is_bare

@@ -1,6 +1,4 @@
 -- `lanes16::unipolar_lanes` meets its contract.
-use borrow.Author.Tests.{not-true, not-false, leb-true, lt-ltb}
-use borrow.Author.Rules.{rules}
 use Rattle.lanes16.proofs.unipolar_lanes.Goals as goal
 
 pub returns-then-not-bipolar : goal.returns-then-not-bipolar

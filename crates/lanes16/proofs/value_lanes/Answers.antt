@@ -1,9 +1,8 @@
 -- `lanes16::value_lanes` meets its contract.
-use mathlib.Core.Path.{◌≡◌, refl, sym, ap, ◌∙◌}
+use mathlib.Core.Path.{refl, ◌∙◌}
 use Prim.Native.Nat.{◌+◌}
 use Rattle.lane.proofs.Values.{value_of}
 use Rattle.lanes16.proofs.Laws.{gained-of}
-use borrow.Author.Rules.{rules}
 use Rattle.lanes16.proofs.value_lanes.Goals as goal
 
 pub returns : goal.returns

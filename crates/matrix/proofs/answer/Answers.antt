@@ -1,9 +1,8 @@
 -- `matrix::answer` meets its contract: past the last slot nothing is replaced.
 use mathlib.Core.Path.{◌≡◌}
 use native.Mathlib.Omega.{arith}
-use borrow.Author.Rules.{rules}
 use borrow.Author.Tests.{eq-eqb, ne_eqb}
-use lib.ListN.{length, length-map}
+use lib.ListN.{length}
 use Rattle.config.specs.Sizes.{slots}
 use Rattle.slots.specs.Matrix.{with_slots, with_slot}
 use Rattle.matrix.specs.Edits.{answered}
@@ -18,7 +17,7 @@ pub returns-then-n-ge-SLOTS : goal.returns-then-n-ge-SLOTS
 unfolding answered
 returns-then-n-ge-SLOTS c =
     let a = c.args in
-    let long : length a.matrix.slot ≡ slots = simp length-map at c.well_formed.1.0.1.1.0.1.0.1 in
+    let long : length a.matrix.slot ≡ slots = c.well_formed.1.0.1.1.0.1.0.1 in
     simp (eq-eqb _ _ c.if-code-ne0.false, with-slot-past a.matrix a.n a.slot (omega arith))
 
 pub returns : goal.returns

@@ -26,7 +26,10 @@ returns-then-code-ne0 c =
     let rows = table_rows (curve_allowed t a.rise a.fall) a.tables.now t in
     let rest = c.rows_of_table.ensures ∙ ap (λ (b : Bool). judged (table_rows b a.tables.now t)) c.curve_allowed-allowed.ensures in
     let code : c.first-code.result ≡ judged (slot_row a.n ∷ rows) = cc (c.slot_code.ensures, rest, c.first-code.ensures, judged-row 5 (leb slots a.n) rows tt) in
-    tabled-refused _ _ _ _ _ _ code c.if-code-ne0.true
+    record {
+      answer = (tabled-refused _ _ _ _ _ _ code c.if-code-ne0.true).0;
+      lent = (tabled-refused _ _ _ _ _ _ code c.if-code-ne0.true).1;
+    }
 
 pub place_of-requires : goal.place_of-requires
 place_of-requires c =
@@ -57,5 +60,7 @@ returns c =
     let rest = c.rows_of_table.ensures ∙ ap (λ (b : Bool). judged (table_rows b a.tables.now t)) c.curve_allowed-allowed.ensures in
     let code : c.first-code.result ≡ judged (slot_row a.n ∷ rows) = cc (c.slot_code.ensures, rest, c.first-code.ensures, judged-row 5 (leb slots a.n) rows tt) in
     let slot = c.with_curve-slot.ensures ∙ ap (with_curve a.which (C.Table a.rise a.fall)) c.slot_of.ensures in
-    let done = tabled-accepted _ _ _ _ _ (sym code ∙ c.if-code-ne0.false) in
-    (c.answer.ensures ∙ ap (λ (s : Slot). answered 0 a.matrix (with_slot a.matrix a.n s)) slot ∙ done.0, c.write_table.ensures ∙ ap (λ (p : ℕ). with_table a.tables.now p t) c.place_of.ensures.0 ∙ done.1)
+    record {
+      answer = c.answer.ensures ∙ ap (λ (s : Slot). answered 0 a.matrix (with_slot a.matrix a.n s)) slot ∙ (tabled-accepted _ _ _ _ _ (sym code ∙ c.if-code-ne0.false)).0;
+      lent = c.write_table.ensures ∙ ap (λ (p : ℕ). with_table a.tables.now p t) c.place_of.ensures.0 ∙ (tabled-accepted _ _ _ _ _ (sym code ∙ c.if-code-ne0.false)).1;
+    }

@@ -18,7 +18,10 @@ returns-then-code-ne0 c =
     let a = c.args in
     let t = a.table.now in
     let code = c.rows_of_table-code.ensures ∙ ap (λ (b : Bool). judged (table_rows b a.tables.now t)) c.numbers_allowed.ensures in
-    tabled-refused _ _ _ _ _ _ code c.if-code-ne0.true
+    record {
+      answer = (tabled-refused _ _ _ _ _ _ code c.if-code-ne0.true).0;
+      lent = (tabled-refused _ _ _ _ _ _ code c.if-code-ne0.true).1;
+    }
 
 pub write_table-requires : goal.write_table-requires
 write_table-requires c =
@@ -29,10 +32,12 @@ write_table-requires c =
     (c.note_place.ensures.1, known.0, known.1)
 
 pub returns : goal.returns
-unfolding set_note_curve answered tabled
+unfolding set_note_curve answered
 returns c =
     let a = c.args in
     let t = a.table.now in
     let code = c.rows_of_table-code.ensures ∙ ap (λ (b : Bool). judged (table_rows b a.tables.now t)) c.numbers_allowed.ensures in
-    let done = tabled-accepted _ _ _ _ _ (sym code ∙ c.if-code-ne0.false) in
-    (ap (λ (m : Matrix). answered 0 a.matrix m) c.with_note-next.ensures ∙ done.0, c.write_table.ensures ∙ ap (λ (p : ℕ). with_table a.tables.now p t) c.note_place.ensures.0 ∙ done.1)
+    record {
+      answer = ap (λ (m : Matrix). answered 0 a.matrix m) c.with_note-next.ensures ∙ (tabled-accepted _ _ _ _ _ (sym code ∙ c.if-code-ne0.false)).0;
+      lent = c.write_table.ensures ∙ ap (λ (p : ℕ). with_table a.tables.now p t) c.note_place.ensures.0 ∙ (tabled-accepted _ _ _ _ _ (sym code ∙ c.if-code-ne0.false)).1;
+    }

@@ -21,11 +21,11 @@ use borrow.Author.Rules.{rules}
 use Rattle.plan_mix.proofs.mix_all.Given as goal
 
 abbrev pub invariant-loop-j : goal.invariant-loop-j
-invariant-loop-j l =
-    (l.j ≤ l.count) × (length l.routes ≡ 64) × (length l.parts ≡ 128) × Based l.ground × (l.reach.lanes ≤ 64) × (l.ground.voice ≡ false → l.reach.lanes ≤ 1)
-    × ((t : Env) (f : Rows) (s : Own) (x : Mix) (w : Job) → Mixes t f s x w l.held l.globals l.samples l.values → Works t (point_of w.scene w.chunks) l.tables → From w l.ground l.routes l.parts l.first l.count → Reached t l.reach
-    → ((l : ℕ) → l < l.reach.lanes → at l.sums l ≡ others t f s x l (at l.initial.sums l) l.j) × ((i : ℕ) → i < l.j → i < slots → IsNew t x f s i (x.route i) l.new))
-    × (l.ground.voice ≡ true → l.reach.lanes ≤ l.ground.point.stride) × (length l.new ≡ new_need) × (length l.sums ≡ 64) × (length l.initial.new ≡ new_need) × (length l.initial.sums ≡ 64)
+invariant-loop-j v =
+    (v.j ≤ v.count) × (length v.routes ≡ 64) × (length v.parts ≡ 128) × Based v.ground × (v.reach.lanes ≤ 64) × (v.ground.voice ≡ false → v.reach.lanes ≤ 1)
+    × ((t : Env) (f : Rows) (s : Own) (x : Mix) (w : Job) → Mixes t f s x w v.held v.globals v.samples v.values → Works t (point_of w.scene w.chunks) v.tables → From w v.ground v.routes v.parts v.first v.count → Reached t v.reach
+    → ((l : ℕ) → l < v.reach.lanes → at v.sums l ≡ others t f s x l (at v.initial.sums l) v.j) × ((i : ℕ) → i < v.j → i < slots → IsNew t x f s i (x.route i) v.new))
+    × (v.ground.voice ≡ true → v.reach.lanes ≤ v.ground.point.stride) × (length v.new ≡ new_need) × (length v.sums ≡ 64) × (length v.initial.new ≡ new_need) × (length v.initial.sums ≡ 64)
 
 abbrev pub decreases-loop-j : goal.decreases-loop-j
-decreases-loop-j l = l.count - l.j
+decreases-loop-j v = v.count - v.j

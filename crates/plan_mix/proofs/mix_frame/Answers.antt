@@ -66,7 +66,7 @@ loop-j-preserved c = let i = c.loop-j in
           (aux-from m route.result other.result spare.result _ i.invariant.2 other.ensures spare.ensures.1 c.part_or-aux.ensures) in
           let was = i.invariant.6 t f s x w k o m re in (
             λ l u. others-next t f s x l i.j _ (at i.sums l) _ (was.0 l u) (here.0 l u),
-            new-next t x f s i.j route.result i.new c.mix_route.new.0 (stride-small t w m.ground i.invariant.3 k.reads.stride) e.2 (route-is i.j k.job below ch.route) here.1 was.1,
+            new-next t x f s i.j route.result i.new c.mix_route.new.new (stride-small t w m.ground i.invariant.3 k.reads.stride) e.2 (route-is i.j k.job below ch.route) here.1 was.1,
           ),
       i.invariant.7,
       e.0,

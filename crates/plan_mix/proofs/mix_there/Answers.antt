@@ -29,7 +29,7 @@ returns-then-moves_in c = let m = c.mix_moving.ensures in (
       let off = both-off c.is_plain-plain.result c.idle-idle.result c.moves_in.ensures c.if-moves_in.true in
       let y = stands a.j a.source a.aux k v ch.past in (
         λ l u. other-added t f s y.by x a.j l (at a.sums.now l) voice is pl off.0 id off.1 y.value ((m.3 t f y.by re (viewed a.j k o v q e y)).0 l u),
-        new-there t x f s a.j (w.plan.first + a.j) a.route c.mix_moving.new.0 ch.past (λ g. (m.3 t f s re (viewed-here a.j k o v q e g)).1 x voice is (sym pl ∙ off.0) (sym id ∙ off.1)),
+        new-there t x f s a.j (w.plan.first + a.j) a.route c.mix_moving.new.new ch.past (λ g. (m.3 t f s re (viewed-here a.j k o v q e g)).1 x voice is (sym pl ∙ off.0) (sym id ∙ off.1)),
       ),
 )
 
@@ -46,6 +46,6 @@ returns c = let m = c.new_slow.ensures in (
       let pl = plain-is a.route k.job (c.is_plain-plain.ensures t w ch.ground k.job.scene q) in
       let id = c.idle-idle.ensures t (amount-shown w a.j a.route k.job.scene v) (output-shown w a.j a.route k.job.scene v) in (
         λ l u. other-rests t f s x a.j l (at a.sums.now l) c.is_plain-plain.result c.idle-idle.result is pl id c.moves_in.ensures c.if-moves_in.false,
-        new-there t x f s a.j (w.plan.first + a.j) a.route c.new_slow.new.0 ch.past (λ g. m.2 t f s x re (viewed-here a.j k o v q e g) voice is pl id),
+        new-there t x f s a.j (w.plan.first + a.j) a.route c.new_slow.new.new ch.past (λ g. m.2 t f s x re (viewed-here a.j k o v q e g) voice is pl id),
       ),
 )

@@ -1,4 +1,5 @@
 -- `plan_mix::wide` meets its contract.
+use mathlib.Core.Bool.{not}
 use mathlib.Core.Path.{◌≡◌, refl, sym, ap, ◌∙◌}
 use borrow.Author.Tests.{eqb-true}
 use Rattle.lane_input.proofs.Tests.{was-true}
@@ -13,4 +14,4 @@ pub returns-then-not-route : goal.returns-then-not-route
 returns-then-not-route c = λ h. never h
 
 pub returns : goal.returns
-returns c = λ h. (was-true refl c.if-not-voice.false, was-true refl c.if-not-route.false, eqb-true _ _ h)
+returns c = λ h. (was-true refl (ap not c.if-not-voice.false), was-true refl (ap not c.if-not-route.false), eqb-true _ _ h)

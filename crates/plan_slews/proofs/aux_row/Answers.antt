@@ -1,14 +1,6 @@
 use borrow.Author.Rules.{rules}
-use mathlib.Core.Path.{◌≡◌, refl}
-use Prim.Native.Nat.{ℕ, ◌-◌, ◌≤◌}
+use mathlib.Core.Path.{refl}
 use native.Mathlib.Omega.{arith}
-use lib.ListN.{length}
-use Rattle.model.specs.Env.{Env, Rows, Own}
-use Rattle.model.specs.Mix.{Mix}
-use Rattle.model.specs.Slews.{aux_after}
-use Rattle.lane.specs.View.{Viewed}
-use Rattle.plan_slews.specs.Rows.{IsRow}
-use Rattle.plan_slews.specs.Seen.{Moved}
 use Rattle.plan_slews.proofs.Lanes.{row_more, row-fewer}
 use Rattle.plan_slews.proofs.aux_row.Goals as goal
 

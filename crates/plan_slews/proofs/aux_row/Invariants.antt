@@ -1,8 +1,6 @@
 -- `plan_slews::aux_row` meets its contract. The invariant: the lanes before l are made.
-use borrow.Author.Rules.{rules}
-use mathlib.Core.Path.{◌≡◌, refl}
+use mathlib.Core.Path.{◌≡◌}
 use Prim.Native.Nat.{ℕ, ◌-◌, ◌≤◌}
-use native.Mathlib.Omega.{arith}
 use lib.ListN.{length}
 use Rattle.model.specs.Env.{Env, Rows, Own}
 use Rattle.model.specs.Mix.{Mix}
@@ -10,7 +8,6 @@ use Rattle.model.specs.Slews.{aux_after}
 use Rattle.lane.specs.View.{Viewed}
 use Rattle.plan_slews.specs.Rows.{IsRow}
 use Rattle.plan_slews.specs.Seen.{Moved}
-use Rattle.plan_slews.proofs.Lanes.{row_more, row-fewer}
 use Rattle.plan_slews.proofs.aux_row.Given as goal
 
 abbrev pub invariant-loop-l : goal.invariant-loop-l

@@ -1,13 +1,5 @@
 use borrow.Author.Rules.{rules}
-use mathlib.Core.Path.{◌≡◌}
-use Prim.Native.Nat.{◌-◌, ◌≤◌}
 use native.Mathlib.Omega.{arith}
-use lib.ListN.{length}
-use Rattle.model.specs.Env.{Env, Rows, Own}
-use Rattle.model.specs.Mix.{Mix}
-use Rattle.model.specs.Tick.{lanes_from, held_sum, new_from}
-use Rattle.plan_slews.specs.Rows.{IsRow}
-use Rattle.plan_slews.specs.Seen.{Ticks}
 use Rattle.plan_slews.proofs.Lanes.{row_more, row-fewer}
 use Rattle.plan_slews.proofs.from_each.Goals as goal
 

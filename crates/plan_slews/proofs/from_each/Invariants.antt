@@ -1,15 +1,12 @@
 -- `plan_slews::from_each` meets its contract. The invariant: the lanes before l are made.
-use borrow.Author.Rules.{rules}
 use mathlib.Core.Path.{◌≡◌}
 use Prim.Native.Nat.{◌-◌, ◌≤◌}
-use native.Mathlib.Omega.{arith}
 use lib.ListN.{length}
 use Rattle.model.specs.Env.{Env, Rows, Own}
 use Rattle.model.specs.Mix.{Mix}
 use Rattle.model.specs.Tick.{lanes_from, held_sum, new_from}
 use Rattle.plan_slews.specs.Rows.{IsRow}
 use Rattle.plan_slews.specs.Seen.{Ticks}
-use Rattle.plan_slews.proofs.Lanes.{row_more, row-fewer}
 use Rattle.plan_slews.proofs.from_each.Given as goal
 
 abbrev pub invariant-loop-l : goal.invariant-loop-l

@@ -1,5 +1,4 @@
 -- `plan_slews::from_lane` meets its contract.
-use borrow.Author.Rules.{rules}
 use Rattle.plan_slews.proofs.Ticks.{from-kept, from-started, from-unprimed, from_old}
 use Rattle.plan_slews.proofs.from_lane.Goals as goal
 

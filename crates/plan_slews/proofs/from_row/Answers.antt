@@ -1,8 +1,7 @@
 -- `plan_slews::from_row` meets its contract.
-use mathlib.Core.Path.{◌≡◌, refl}
+use mathlib.Core.Path.{refl}
 use Rattle.model.specs.Tick.{lanes_from}
 use Rattle.plan_slews.proofs.Ticks.{from-kept, from-unprimed, from_old, no_start}
-use borrow.Author.Rules.{rules}
 use Rattle.plan_slews.proofs.from_row.Goals as goal
 
 pub returns-then-kept : goal.returns-then-kept

@@ -1,11 +1,5 @@
 use borrow.Author.Rules.{rules}
-use mathlib.Core.Path.{◌≡◌}
-use Prim.Native.Nat.{ℕ, ◌-◌, ◌≤◌}
 use native.Mathlib.Omega.{arith}
-use lib.ListN.{length, get_or}
-use lib.Ieee.{nan}
-use Rattle.number.specs.Number.{hold}
-use Rattle.plan_slews.specs.Rows.{IsRow}
 use Rattle.plan_slews.proofs.Lanes.{row_more, row-fewer}
 use Rattle.plan_slews.proofs.hold_row.Goals as goal
 

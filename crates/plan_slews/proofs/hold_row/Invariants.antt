@@ -1,13 +1,10 @@
 -- `plan_slews::hold_row` meets its contract. The invariant: the lanes before l are held.
-use borrow.Author.Rules.{rules}
 use mathlib.Core.Path.{◌≡◌}
 use Prim.Native.Nat.{ℕ, ◌-◌, ◌≤◌}
-use native.Mathlib.Omega.{arith}
 use lib.ListN.{length, get_or}
 use lib.Ieee.{nan}
 use Rattle.number.specs.Number.{hold}
 use Rattle.plan_slews.specs.Rows.{IsRow}
-use Rattle.plan_slews.proofs.Lanes.{row_more, row-fewer}
 use Rattle.plan_slews.proofs.hold_row.Given as goal
 
 abbrev pub invariant-loop-l : goal.invariant-loop-l

@@ -1,5 +1,5 @@
 -- `plan_slews::kept` meets its contract.
-use borrow.Author.Tests.{not-true, not-false, ne_eqb}
+use borrow.Author.Tests.{ne_eqb}
 use Rattle.plan_slews.proofs.kept.Goals as goal
 
 pub returns-then-phase-eq0 : goal.returns-then-phase-eq0

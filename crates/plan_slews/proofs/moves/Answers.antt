@@ -1,5 +1,4 @@
 -- `plan_slews::moves` meets its contract.
-use borrow.Author.Rules.{rules}
 use Rattle.plan_slews.proofs.Motions.{moves_of}
 use Rattle.plan_slews.proofs.moves.Goals as goal
 

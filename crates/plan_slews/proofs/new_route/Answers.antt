@@ -1,5 +1,4 @@
 -- `plan_slews::new_route` meets its contract.
-use borrow.Author.Rules.{rules}
 use Rattle.plan_slews.proofs.News.{new-length, new-before, is-new}
 use Rattle.plan_slews.proofs.new_route.Goals as goal
 
@@ -9,9 +8,9 @@ returns c = let a = c.args in
     let aux = c.aux_row-aux in
     let one = c.put_row in
     let two = c.put_row-2 in (
-      new-length a.new.now one.new.0 two.new.0 a.j src.result aux.result c.requires.1 c.requires.2 one.ensures two.ensures,
-      new-before a.new.now one.new.0 two.new.0 a.j src.result aux.result c.requires.1 c.requires.2 one.ensures two.ensures,
+      new-length a.new.now one.new.values two.new.values a.j src.result aux.result c.requires.1 c.requires.2 one.ensures two.ensures,
+      new-before a.new.now one.new.values two.new.values a.j src.result aux.result c.requires.1 c.requires.2 one.ensures two.ensures,
       λ t x f s v q k.
-          is-new a.new.now one.new.0 two.new.0 a.j src.result aux.result c.requires.1 c.requires.2 one.ensures two.ensures t x f s a.route
+          is-new a.new.now one.new.values two.new.values a.j src.result aux.result c.requires.1 c.requires.2 one.ensures two.ensures t x f s a.route
           v.reads.stride c.requires.0.sized.stride (src.ensures t x f s a.j v q k) (aux.ensures t x f s a.j v q k),
     )

@@ -1,9 +1,8 @@
 use borrow.Author.Rules.{rules}
-use mathlib.Core.Path.{◌≡◌, ap, ◌∙◌}
+use mathlib.Core.Path.{ap, ◌∙◌}
 use lib.ListN.{length, length-set}
-use Prim.Native.Nat.{◌-◌, ◌≤◌}
 use native.Mathlib.Omega.{arith}
-use Rattle.model.specs.Tick.{fill_from, lanes_from}
+use Rattle.model.specs.Tick.{lanes_from}
 use Rattle.plan_slews.proofs.Lanes.{fill_none, fill_more, fill_end}
 use Rattle.plan_slews.proofs.put_each.Goals as goal
 

@@ -1,11 +1,8 @@
 -- `plan_slews::put_each` meets its contract. The invariant: the lanes before l are put.
-use borrow.Author.Rules.{rules}
-use mathlib.Core.Path.{◌≡◌, ap, ◌∙◌}
-use lib.ListN.{length, length-set}
+use mathlib.Core.Path.{◌≡◌}
+use lib.ListN.{length}
 use Prim.Native.Nat.{◌-◌, ◌≤◌}
-use native.Mathlib.Omega.{arith}
 use Rattle.model.specs.Tick.{fill_from, lanes_from}
-use Rattle.plan_slews.proofs.Lanes.{fill_none, fill_more, fill_end}
 use Rattle.plan_slews.proofs.put_each.Given as goal
 
 abbrev pub invariant-loop-l : goal.invariant-loop-l

@@ -1,5 +1,4 @@
 -- `plan_slews::put_lane` meets its contract.
-use borrow.Author.Rules.{rules}
 use Rattle.plan_slews.proofs.Lanes.{put-start, put_rest}
 use Rattle.plan_slews.proofs.put_lane.Goals as goal
 

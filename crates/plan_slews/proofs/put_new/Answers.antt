@@ -1,11 +1,10 @@
 use borrow.Author.Rules.{rules}
-use mathlib.Core.Path.{◌≡◌, ap, ◌∙◌}
-use Prim.Native.Nat.{◌+◌, ◌-◌, ◌≤◌}
+use mathlib.Core.Path.{ap, ◌∙◌}
+use Prim.Native.Nat.{◌+◌}
 use native.Mathlib.Omega.{arith}
 use lib.ListN.{length, get_or}
 use Rattle.list.proofs.Elements.{length-mapped, get_or-inside}
 use Rattle.state_filled.specs.Filled.{no_route}
-use Rattle.plan_slews.specs.Put.{put_new}
 use Rattle.plan_slews.proofs.Putting.{unread, put-none, put-more, put-route-length, put-end}
 use Rattle.plan_slews.proofs.put_new.Goals as goal
 

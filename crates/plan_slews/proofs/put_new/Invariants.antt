@@ -1,13 +1,8 @@
 -- `plan_slews::put_new` meets its contract. The invariant: the routes before j are put.
-use borrow.Author.Rules.{rules}
-use mathlib.Core.Path.{◌≡◌, ap, ◌∙◌}
-use Prim.Native.Nat.{◌+◌, ◌-◌, ◌≤◌}
-use native.Mathlib.Omega.{arith}
-use lib.ListN.{length, get_or}
-use Rattle.list.proofs.Elements.{length-mapped, get_or-inside}
-use Rattle.state_filled.specs.Filled.{no_route}
+use mathlib.Core.Path.{◌≡◌}
+use Prim.Native.Nat.{◌-◌, ◌≤◌}
+use lib.ListN.{length}
 use Rattle.plan_slews.specs.Put.{put_new}
-use Rattle.plan_slews.proofs.Putting.{unread, put-none, put-more, put-route-length, put-end}
 use Rattle.plan_slews.proofs.put_new.Given as goal
 
 abbrev pub invariant-loop-j : goal.invariant-loop-j

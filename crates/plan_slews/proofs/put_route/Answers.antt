@@ -1,5 +1,4 @@
 -- `plan_slews::put_route` meets its contract.
-use borrow.Author.Rules.{rules}
 use mathlib.Core.Path.{sym, ◌∙◌}
 use Rattle.plan_slews.proofs.Putting.{two-parts}
 use Rattle.plan_slews.proofs.put_route.Goals as goal

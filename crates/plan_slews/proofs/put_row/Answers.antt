@@ -1,5 +1,4 @@
 -- `plan_slews::put_row` meets its contract.
-use borrow.Author.Rules.{rules}
 use Rattle.plan_slews.proofs.Lanes.{fill-row}
 use Rattle.plan_slews.proofs.put_row.Goals as goal
 

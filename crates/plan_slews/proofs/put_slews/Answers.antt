@@ -1,6 +1,5 @@
 -- `plan_slews::put_slews` meets its contract.
 use native.Mathlib.Omega.{arith}
-use borrow.Author.Rules.{rules}
 use Rattle.plan_slews.proofs.put_slews.Goals as goal
 
 pub returns : goal.returns

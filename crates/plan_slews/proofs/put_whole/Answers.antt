@@ -1,8 +1,7 @@
-use mathlib.Core.Path.{◌≡◌, refl, sym, ap, ◌∙◌}
-use lib.ListN.{length, length-set}
-use Prim.Native.Nat.{◌+◌, ◌-◌, ◌≤◌}
+use mathlib.Core.Path.{refl}
+use lib.ListN.{length-set}
 use native.Mathlib.Omega.{arith}
-use Rattle.model.specs.Tick.{fill_from, lanes_from}
+use Rattle.model.specs.Tick.{lanes_from}
 use Rattle.plan_slews.proofs.Lanes.{fill_none, fill_more, fill_end}
 use borrow.Author.Rules.{rules}
 use Rattle.plan_slews.proofs.put_whole.Goals as goal

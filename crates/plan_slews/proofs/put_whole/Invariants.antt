@@ -1,11 +1,8 @@
 -- `plan_slews::put_whole` meets its contract.
-use mathlib.Core.Path.{◌≡◌, refl, sym, ap, ◌∙◌}
-use lib.ListN.{length, length-set}
-use Prim.Native.Nat.{◌+◌, ◌-◌, ◌≤◌}
-use native.Mathlib.Omega.{arith}
+use mathlib.Core.Path.{◌≡◌}
+use lib.ListN.{length}
+use Prim.Native.Nat.{◌-◌, ◌≤◌}
 use Rattle.model.specs.Tick.{fill_from, lanes_from}
-use Rattle.plan_slews.proofs.Lanes.{fill_none, fill_more, fill_end}
-use borrow.Author.Rules.{rules}
 use Rattle.plan_slews.proofs.put_whole.Given as goal
 
 abbrev pub invariant-loop-l : goal.invariant-loop-l

@@ -1,6 +1,4 @@
 -- `plan_slews::starting` meets its contract.
-use borrow.Author.Rules.{rules}
-use borrow.Author.Tests.{not-true, not-false}
 use Rattle.plan_slews.proofs.starting.Goals as goal
 
 pub returns-then-not-snap : goal.returns-then-not-snap

@@ -1,7 +1,5 @@
 -- `plan_slews::still` meets its contract.
-use borrow.Author.Rules.{rules}
 use mathlib.Core.Path.{sym, ◌∙◌}
-use borrow.Author.Tests.{not-true, not-false}
 use Rattle.plan_slews.proofs.still.Goals as goal
 
 pub returns-then-not-input_free : goal.returns-then-not-input_free

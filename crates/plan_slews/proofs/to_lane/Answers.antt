@@ -1,5 +1,4 @@
 -- `plan_slews::to_lane` meets its contract.
-use borrow.Author.Rules.{rules}
 use Rattle.plan_slews.proofs.Ticks.{to-kept, to-new}
 use Rattle.plan_slews.proofs.to_lane.Goals as goal
 

@@ -1,8 +1,6 @@
 -- `plan_slews::to_row` meets its contract.
-use mathlib.Core.Path.{◌≡◌, refl}
 use Rattle.model.specs.Tick.{lanes_from}
 use Rattle.plan_slews.proofs.Ticks.{to-kept, to-new, no_start}
-use borrow.Author.Rules.{rules}
 use Rattle.plan_slews.proofs.to_row.Goals as goal
 
 pub returns-then-kept : goal.returns-then-kept

@@ -1,5 +1,4 @@
 -- `plan_sum::add_at` meets its contract.
-use borrow.Author.Rules.{rules}
 use native.Mathlib.Omega.{arith}
 use mathlib.Core.Bool.{◌&&◌}
 use lib.Dec.{ltb, leb}

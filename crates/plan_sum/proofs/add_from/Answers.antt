@@ -1,13 +1,8 @@
 use borrow.Author.Rules.{rules}
-use mathlib.Core.Path.{◌≡◌, refl, sym, ap, ◌∙◌}
-use Prim.Native.Nat.{ℕ, ◌+◌, ◌-◌, ◌*◌, ◌≤◌, ◌<◌}
+use mathlib.Core.Path.{◌≡◌, refl, sym}
 use native.Mathlib.Omega.{arith}
-use mathlib.Core.List.{List}
-use lib.Ieee.{Float}
 use lib.ListN.{length}
-use Rattle.number.specs.Number.{plus, times}
-use Rattle.model.specs.Counts.{at}
-use Rattle.plan_sum.proofs.Lanes.{Ranged, ranged-none, ranged-more, ranged-cond}
+use Rattle.plan_sum.proofs.Lanes.{ranged-none, ranged-more, ranged-cond}
 use Rattle.plan_sum.proofs.add_from.Goals as goal
 use Rattle.plan_sum.proofs.add_from.Invariants.{Each}
 

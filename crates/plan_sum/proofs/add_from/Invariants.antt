@@ -1,14 +1,11 @@
 -- `plan_sum::add_from` meets its contract. The invariant: the lanes of the span below l are added to.
-use borrow.Author.Rules.{rules}
-use mathlib.Core.Path.{◌≡◌, refl, sym, ap, ◌∙◌}
-use Prim.Native.Nat.{ℕ, ◌+◌, ◌-◌, ◌*◌, ◌≤◌, ◌<◌}
-use native.Mathlib.Omega.{arith}
+use mathlib.Core.Path.{◌≡◌}
+use Prim.Native.Nat.{ℕ, ◌+◌, ◌-◌, ◌≤◌}
 use mathlib.Core.List.{List}
 use lib.Ieee.{Float}
-use lib.ListN.{length}
 use Rattle.number.specs.Number.{plus, times}
 use Rattle.model.specs.Counts.{at}
-use Rattle.plan_sum.proofs.Lanes.{Ranged, ranged-none, ranged-more, ranged-cond}
+use Rattle.plan_sum.proofs.Lanes.{Ranged}
 use Rattle.plan_sum.proofs.add_from.Given as goal
 
 -- what is stored in a lane, of what stood there

@@ -1,5 +1,4 @@
 -- `plan_sum::add_lane` meets its contract.
-use borrow.Author.Rules.{rules}
 use Rattle.plan_sum.proofs.add_lane.Goals as goal
 
 pub returns-in-At : goal.returns-in-At

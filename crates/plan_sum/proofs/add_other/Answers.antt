@@ -1,6 +1,5 @@
 -- `plan_sum::add_other` meets its contract.
-use borrow.Author.Rules.{rules}
-use mathlib.Core.Path.{◌≡◌, refl, sym, ap, ◌∙◌}
+use mathlib.Core.Path.{sym, ap, ◌∙◌}
 use Rattle.model.specs.Counts.{at}
 use Rattle.plan_sum.specs.declared.Ground.{Ground}
 use Rattle.plan_sum.specs.Ground.{view_by}

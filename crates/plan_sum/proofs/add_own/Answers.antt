@@ -1,6 +1,4 @@
 -- `plan_sum::add_own` meets its contract.
-use borrow.Author.Rules.{rules}
-use borrow.Author.Tests.{not-true, not-false}
 use Rattle.plan_sum.proofs.add_own.Goals as goal
 
 pub returns-then-not-on : goal.returns-then-not-on

@@ -1,21 +1,12 @@
-use borrow.Author.Rules.{rules}
-use mathlib.Core.Path.{◌≡◌, refl, sym, ap, ◌∙◌}
-use Prim.Native.Nat.{ℕ, ◌+◌, ◌-◌, ◌*◌, ◌≤◌, ◌<◌}
+use mathlib.Core.Path.{◌≡◌, refl, ap, ◌∙◌}
+use Prim.Native.Nat.{ℕ}
 use native.Mathlib.Omega.{arith}
 use mathlib.Core.Bool.{cond}
 use lib.Ieee.{Float}
-use Rattle.number.specs.Number.{plus}
 use Rattle.model.specs.Counts.{at}
-use Rattle.model.specs.Env.{Env, Rows, Own}
-use mathlib.Core.List.{List}
-use lib.ListN.{length}
-use Rattle.model.specs.Mix.{Mix}
-use Rattle.plan_sum.specs.declared.Job.{Job}
 use Rattle.model.specs.Lanes.{in_span}
-use Rattle.model.specs.Sums.{base_in, offsets, plains}
-use Rattle.plan_sum.specs.Job.{Mixes}
-use Rattle.plan_sum.specs.Ground.{Based, Spanned}
-use Rattle.plan_sum.proofs.Found.{From, chosen, source-from, ground-based, ground-stride}
+use Rattle.model.specs.Sums.{plains}
+use Rattle.plan_sum.proofs.Found.{chosen, source-from, ground-based, ground-stride}
 use Rattle.plan_sum.proofs.Steps.{plains-none, plains-next}
 use Rattle.plan_sum.proofs.add_plains.Goals as goal
 

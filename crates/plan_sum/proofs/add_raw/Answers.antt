@@ -1,19 +1,13 @@
 use borrow.Author.Rules.{rules}
-use mathlib.Core.Path.{◌≡◌, refl, sym, ap, ◌∙◌}
-use Prim.Native.Nat.{ℕ, ◌+◌, ◌-◌, ◌*◌, ◌≤◌, ◌<◌}
+use mathlib.Core.Path.{◌≡◌, sym}
+use Prim.Native.Nat.{ℕ}
 use native.Mathlib.Omega.{arith}
-use mathlib.Core.List.{List}
 use lib.Ieee.{Float}
 use lib.ListN.{length}
 use Rattle.number.specs.Number.{plus, times}
-use Rattle.state.specs.declared.Route.{Route}
-use Rattle.model.specs.Env.{Env, Rows, Own}
 use Rattle.model.specs.RouteValue.{raw_in}
-use Rattle.lane.specs.declared.View.{View}
-use Rattle.plan_sum.specs.Job.{Shown}
-use Rattle.plan_sum.proofs.Lanes.{Ranged, ranged-none, ranged-more, ranged-cond}
+use Rattle.plan_sum.proofs.Lanes.{ranged-none, ranged-more, ranged-cond}
 use Rattle.plan_sum.proofs.add_raw.Goals as goal
-use Rattle.plan_sum.proofs.add_raw.Invariants.{Each}
 
 pub loop-l-init : goal.loop-l-init
 loop-l-init c = (omega arith, omega arith, ranged-none _ _ _)

@@ -1,18 +1,15 @@
 -- `plan_sum::add_raw` meets its contract. The invariant: the lanes of the span below l are added to.
-use borrow.Author.Rules.{rules}
-use mathlib.Core.Path.{◌≡◌, refl, sym, ap, ◌∙◌}
-use Prim.Native.Nat.{ℕ, ◌+◌, ◌-◌, ◌*◌, ◌≤◌, ◌<◌}
-use native.Mathlib.Omega.{arith}
+use mathlib.Core.Path.{◌≡◌}
+use Prim.Native.Nat.{ℕ, ◌-◌, ◌≤◌}
 use mathlib.Core.List.{List}
 use lib.Ieee.{Float}
-use lib.ListN.{length}
 use Rattle.number.specs.Number.{plus, times}
 use Rattle.state.specs.declared.Route.{Route}
 use Rattle.model.specs.Env.{Env, Rows, Own}
 use Rattle.model.specs.RouteValue.{raw_in}
 use Rattle.lane.specs.declared.View.{View}
 use Rattle.plan_sum.specs.Job.{Shown}
-use Rattle.plan_sum.proofs.Lanes.{Ranged, ranged-none, ranged-more, ranged-cond}
+use Rattle.plan_sum.proofs.Lanes.{Ranged}
 use Rattle.plan_sum.proofs.add_raw.Given as goal
 
 -- what is stored in a lane, of what stood there

@@ -1,7 +1,6 @@
 -- `plan_sum::audio_begun` meets its contract.
 use mathlib.Core.Path.{refl, sym}
 use native.Mathlib.Omega.{arith}
-use borrow.Author.Rules.{rules}
 use lib.ListN.{get_or-replicate}
 use lib.Ieee.{nan}
 use Rattle.model.specs.Counts.{at}

@@ -1,5 +1,4 @@
 -- `plan_sum::base_by` meets its contract.
-use borrow.Author.Rules.{rules}
 use Rattle.plan_sum.proofs.base_by.Goals as goal
 
 pub returns-in-Set : goal.returns-in-Set

@@ -1,5 +1,4 @@
 -- `plan_sum::base_in` meets its contract.
-use borrow.Author.Rules.{rules}
 use Rattle.plan_sum.proofs.Found.{base-of}
 use Rattle.plan_sum.proofs.base_in.Goals as goal
 

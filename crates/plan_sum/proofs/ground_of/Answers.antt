@@ -1,5 +1,4 @@
 -- `plan_sum::ground_of` meets its contract.
-use borrow.Author.Rules.{rules}
 use Rattle.plan_sum.proofs.ground_of.Goals as goal
 
 pub returns : goal.returns

@@ -1,5 +1,4 @@
 -- `plan_sum::groups_of` meets its contract.
-use borrow.Author.Rules.{rules}
 use Rattle.plan_sum.proofs.Spans.{groups-at}
 use Rattle.plan_sum.proofs.groups_of.Goals as goal
 

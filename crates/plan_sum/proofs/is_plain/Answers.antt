@@ -1,5 +1,4 @@
 -- `plan_sum::is_plain` meets its contract.
-use borrow.Author.Rules.{rules}
 use Rattle.plan_sum.proofs.Found.{plain_by}
 use Rattle.plan_sum.proofs.is_plain.Goals as goal
 

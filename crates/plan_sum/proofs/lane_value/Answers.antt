@@ -1,5 +1,4 @@
 -- `plan_sum::lane_value` meets its contract.
-use borrow.Author.Rules.{rules}
 use Rattle.plan_sum.proofs.lane_value.Goals as goal
 
 pub returns : goal.returns

@@ -1,6 +1,5 @@
 -- `plan_sum::other_lanes` meets its contract.
-use borrow.Author.Rules.{rules}
-use mathlib.Core.Path.{◌≡◌, refl, sym, ap, ◌∙◌}
+use mathlib.Core.Path.{◌≡◌}
 use native.Mathlib.Omega.{arith}
 use Rattle.plan_sum.proofs.other_lanes.Goals as goal
 

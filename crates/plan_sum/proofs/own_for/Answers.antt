@@ -1,6 +1,5 @@
 -- `plan_sum::own_for` meets its contract.
-use borrow.Author.Rules.{rules}
-use Prim.Native.Nat.{ℕ, ◌+◌, ◌-◌, ◌*◌, ◌≤◌, ◌<◌}
+use Prim.Native.Nat.{◌+◌}
 use native.Mathlib.Omega.{arith}
 use Rattle.plan_sum.proofs.Found.{own-none, own-some}
 use Rattle.plan_sum.proofs.own_for.Goals as goal

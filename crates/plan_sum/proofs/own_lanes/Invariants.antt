@@ -1,12 +1,10 @@
 -- `plan_sum::own_lanes` meets its contract. The invariant: the lanes below l are added to.
-use borrow.Author.Rules.{rules}
-use mathlib.Core.Path.{◌≡◌, refl, sym, ap, ◌∙◌}
-use Prim.Native.Nat.{ℕ, ◌-◌, ◌/◌, ◌≤◌, ◌<◌}
-use native.Mathlib.Omega.{arith}
+use mathlib.Core.Path.{◌≡◌}
+use Prim.Native.Nat.{ℕ, ◌-◌, ◌/◌, ◌≤◌}
 use mathlib.Core.List.{List}
 use lib.Ieee.{Float}
 use Rattle.number.specs.Number.{plus}
-use mathlib.Core.Bool.{Bool, true, false, cond}
+use mathlib.Core.Bool.{Bool, false, cond}
 use lib.ListN.{length, get_or}
 use Rattle.config.specs.Sizes.{lanes}
 use Rattle.state.specs.declared.Route.{Route}
@@ -14,7 +12,7 @@ use Rattle.model.specs.Env.{Env, Rows, Own}
 use Rattle.model.specs.RouteValue.{route_value}
 use Rattle.lane.specs.declared.View.{View}
 use Rattle.lane.specs.View.{Viewed}
-use Rattle.plan_sum.proofs.Lanes.{Laned, laned-none, laned-more}
+use Rattle.plan_sum.proofs.Lanes.{Laned}
 use Rattle.plan_sum.proofs.own_lanes.Given as goal
 
 -- what is stored in a lane, of what stood there

@@ -1,6 +1,5 @@
 -- `plan_sum::part_or` meets its contract.
-use borrow.Author.Rules.{rules}
-use borrow.Author.Tests.{leb-true, lt-leb, lt-ltb, le-ltb}
+use borrow.Author.Tests.{lt-ltb, le-ltb}
 use Rattle.config.specs.Sizes.{most_sources}
 use Rattle.plan_sum.proofs.part_or.Goals as goal
 

@@ -1,6 +1,5 @@
 -- `plan_sum::place_of` meets its contract.
-use borrow.Author.Rules.{rules}
-use mathlib.Core.Path.{◌≡◌, refl, sym, ap, ◌∙◌}
+use mathlib.Core.Path.{◌∙◌}
 use Rattle.model.specs.RouteValue.{raw_in}
 use Rattle.plan_sum.proofs.Places.{raw-held, raw-fed, raw-own, raw-signal}
 use Rattle.plan_sum.proofs.place_of.Goals as goal

@@ -1,6 +1,5 @@
 -- `plan_sum::plain_lanes` meets its contract.
-use borrow.Author.Rules.{rules}
-use mathlib.Core.Path.{◌≡◌, refl, sym, ap, ◌∙◌}
+use mathlib.Core.Path.{refl}
 use Rattle.plan_sum.proofs.plain_lanes.Goals as goal
 
 pub returns : goal.returns

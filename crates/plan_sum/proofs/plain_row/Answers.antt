@@ -1,5 +1,4 @@
 -- `plan_sum::plain_row` meets its contract.
-use borrow.Author.Rules.{rules}
 use native.Mathlib.Omega.{arith}
 use Rattle.model.specs.Counts.{at}
 use Rattle.plan_sum.proofs.Steps.{span-start}

@@ -1,14 +1,8 @@
 use borrow.Author.Rules.{rules}
-use mathlib.Core.Path.{◌≡◌, refl, sym, ap, ◌∙◌}
-use Prim.Native.Nat.{ℕ, ◌-◌, ◌/◌, ◌≤◌, ◌<◌}
+use mathlib.Core.Path.{◌≡◌}
 use native.Mathlib.Omega.{arith}
-use mathlib.Core.List.{List}
-use lib.Ieee.{Float}
-use Rattle.number.specs.Number.{plus}
-use mathlib.Core.Bool.{Bool, true, false, cond}
-use lib.ListN.{length, get_or}
-use Rattle.config.specs.Sizes.{lanes}
-use Rattle.plan_sum.proofs.Lanes.{Laned, laned-none, laned-more}
+use lib.ListN.{length}
+use Rattle.plan_sum.proofs.Lanes.{laned-none, laned-more}
 use Rattle.plan_sum.proofs.same_lanes.Goals as goal
 
 pub loop-l-init : goal.loop-l-init

@@ -1,10 +1,9 @@
 -- `plan_sum::signal_place` meets its contract.
-use borrow.Author.Rules.{rules}
-use mathlib.Core.Path.{◌≡◌, refl, sym, ap, ◌∙◌}
-use Prim.Native.Nat.{ℕ, ◌+◌, ◌-◌, ◌*◌, ◌≤◌, ◌<◌}
+use mathlib.Core.Bool.{not}
+use mathlib.Core.Path.{refl, ap, ◌∙◌}
+use Prim.Native.Nat.{◌+◌, ◌*◌, ◌≤◌}
 use native.Mathlib.Omega.{arith}
-use borrow.Author.Tests.{leb-true, lt-leb, lt-ltb, le-ltb}
-use Rattle.lane_input.proofs.Tests.{was-true, was-false}
+use Rattle.lane_input.proofs.Tests.{was-true}
 use Rattle.plan_sum.proofs.Places.{row_below, sample-at}
 use Rattle.plan_sum.proofs.signal_place.Goals as goal
 
@@ -17,4 +16,4 @@ returns c = λ h m.
     let w = c.part_stride-wide in
     let o = c.frame_place.ensures h m in
     let row : a.frame * w.result + w.result ≤ a.part.len = row_below a.frame w.result a.part.len w.ensures.1 (omega arith) in
-    (o.0, λ z e l k. o.1 z (λ l k. e l (was-true refl c.if-not-voice.false) ∙ sample-at _ a.part a.frame l w.result w.ensures.0 (omega arith) row) l k)
+    (o.0, λ z e l k. o.1 z (λ l k. e l (was-true refl (ap not c.if-not-voice.false)) ∙ sample-at _ a.part a.frame l w.result w.ensures.0 (omega arith) row) l k)

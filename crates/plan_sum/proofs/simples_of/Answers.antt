@@ -1,11 +1,10 @@
-use mathlib.Core.Path.{◌≡◌, ap}
-use mathlib.Core.Bool.{false}
-use Prim.Native.Nat.{ℕ, ◌-◌, ◌≤◌, ◌<◌}
+use mathlib.Core.Path.{ap}
+use Prim.Native.Nat.{◌<◌}
 use native.Mathlib.Omega.{arith}
 use borrow.Author.Rules.{rules}
-use lib.ListN.{length, get_or, replicate}
+use lib.ListN.{length}
 use Rattle.list.proofs.Elements.{get_or-inside, length-mapped}
-use Rattle.list.proofs.Filled.{Filled, filled_none, filled_more}
+use Rattle.list.proofs.Filled.{filled_none, filled_more}
 use Rattle.state_filled.specs.Filled.{no_route}
 use Rattle.state.specs.declared.Route.{Route}
 use Rattle.plan_sum.proofs.Simple.{all_told}

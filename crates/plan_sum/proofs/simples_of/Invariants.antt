@@ -1,15 +1,10 @@
 -- `plan_sum::simples_of` meets its contract. The invariant: the routes before i are told.
-use mathlib.Core.Path.{◌≡◌, ap}
+use mathlib.Core.Path.{◌≡◌}
 use mathlib.Core.Bool.{false}
-use Prim.Native.Nat.{ℕ, ◌-◌, ◌≤◌, ◌<◌}
-use native.Mathlib.Omega.{arith}
-use borrow.Author.Rules.{rules}
+use Prim.Native.Nat.{ℕ, ◌-◌, ◌≤◌}
 use lib.ListN.{length, get_or, replicate}
-use Rattle.list.proofs.Elements.{get_or-inside, length-mapped}
-use Rattle.list.proofs.Filled.{Filled, filled_none, filled_more}
+use Rattle.list.proofs.Filled.{Filled}
 use Rattle.state_filled.specs.Filled.{no_route}
-use Rattle.state.specs.declared.Route.{Route}
-use Rattle.plan_sum.proofs.Simple.{all_told}
 use Rattle.plan_sum.proofs.simples_of.Given as goal
 
 abbrev pub invariant-loop-i : goal.invariant-loop-i

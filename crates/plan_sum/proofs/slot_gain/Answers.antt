@@ -1,5 +1,4 @@
 -- `plan_sum::slot_gain` meets its contract.
-use borrow.Author.Rules.{rules}
 use Rattle.plan_sum.proofs.slot_gain.Goals as goal
 
 pub returns : goal.returns

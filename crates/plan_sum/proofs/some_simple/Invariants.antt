@@ -1,13 +1,8 @@
 -- `plan_sum::some_simple` meets its contract. The invariant: none of the routes before j is simple.
-use mathlib.Core.Path.{◌≡◌, sym}
+use mathlib.Core.Path.{◌≡◌}
 use mathlib.Core.Bool.{false}
 use Prim.Native.Nat.{ℕ, ◌+◌, ◌-◌, ◌≤◌, ◌<◌}
-use native.Mathlib.Omega.{arith}
-use borrow.Author.Count.{below_more}
-use borrow.Author.Rules.{rules}
 use lib.ListN.{length, get_or}
-use Rattle.number.proofs.Laws.{no as never}
-use Rattle.plan_sum.proofs.Simple.{mark-read}
 use Rattle.plan_sum.proofs.some_simple.Given as goal
 
 abbrev pub invariant-loop-j : goal.invariant-loop-j

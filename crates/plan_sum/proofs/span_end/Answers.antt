@@ -1,6 +1,5 @@
 -- `plan_sum::span_end` meets its contract.
-use borrow.Author.Rules.{rules}
-use mathlib.Core.Path.{◌≡◌, refl, sym, ap, ◌∙◌}
+use mathlib.Core.Path.{refl}
 use native.Mathlib.Omega.{arith}
 use Rattle.plan_sum.proofs.Spans.{end-at, end-past, rested}
 use Rattle.plan_sum.proofs.span_end.Goals as goal

@@ -1,6 +1,5 @@
 -- `plan_sum::span_first` meets its contract.
-use borrow.Author.Rules.{rules}
-use mathlib.Core.Path.{◌≡◌, refl, sym, ap, ◌∙◌}
+use mathlib.Core.Path.{refl, sym, ◌∙◌}
 use Rattle.plan_sum.proofs.Spans.{first-at, first_past}
 use Rattle.plan_sum.proofs.span_first.Goals as goal
 

@@ -1,5 +1,4 @@
 -- `plan_sum::span_ordered` meets its contract.
-use borrow.Author.Rules.{rules}
 use native.Mathlib.Omega.{arith}
 use Rattle.plan_sum.proofs.Spans.{none_between}
 use Rattle.plan_sum.proofs.span_ordered.Goals as goal

@@ -1,11 +1,8 @@
 -- `plan_sum::span_row` meets its contract. The invariant: the lanes of the span below l are set.
-use borrow.Author.Rules.{rules}
-use mathlib.Core.Path.{◌≡◌, refl, sym, ap, ◌∙◌}
-use Prim.Native.Nat.{ℕ, ◌+◌, ◌-◌, ◌*◌, ◌≤◌, ◌<◌}
-use native.Mathlib.Omega.{arith}
+use mathlib.Core.Path.{◌≡◌}
+use Prim.Native.Nat.{ℕ, ◌-◌, ◌≤◌}
 use lib.Ieee.{Float}
-use lib.ListN.{length}
-use Rattle.plan_sum.proofs.Lanes.{Ranged, ranged-none, ranged-more, ranged-cond}
+use Rattle.plan_sum.proofs.Lanes.{Ranged}
 use Rattle.plan_sum.proofs.span_row.Given as goal
 
 abbrev pub invariant-loop-l : goal.invariant-loop-l

@@ -1,6 +1,5 @@
 -- `plan_sum::span_within` meets its contract.
-use borrow.Author.Rules.{rules}
-use mathlib.Core.Path.{◌≡◌, refl, sym, ap, ◌∙◌}
+use mathlib.Core.Path.{◌∙◌}
 use native.Mathlib.Omega.{arith}
 use Rattle.plan_sum.proofs.Spans.{end-within}
 use Rattle.plan_sum.proofs.span_within.Goals as goal

@@ -1,16 +1,7 @@
-use borrow.Author.Rules.{rules}
-use mathlib.Core.Path.{◌≡◌, refl, sym, ap, ◌∙◌}
-use Prim.Native.Nat.{ℕ, ◌+◌, ◌-◌, ◌*◌, ◌≤◌, ◌<◌}
+use mathlib.Core.Path.{◌≡◌, refl}
 use native.Mathlib.Omega.{arith}
-use Rattle.model.specs.Env.{Env, Rows, Own}
-use mathlib.Core.List.{List}
-use lib.ListN.{length}
-use Rattle.model.specs.Mix.{Mix}
-use Rattle.plan_sum.specs.declared.Job.{Job}
 use lib.Ieee.{of_bits}
-use Rattle.plan_sum.specs.Job.{IsJob}
-use Rattle.plan_sum.specs.Ground.{Totalled}
-use Rattle.plan_sum.proofs.Found.{From, chosen, source-from}
+use Rattle.plan_sum.proofs.Found.{chosen, source-from}
 use Rattle.plan_sum.proofs.Steps.{totalled_none}
 use Rattle.plan_sum.proofs.totals_of.Goals as goal
 

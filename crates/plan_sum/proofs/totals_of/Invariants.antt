@@ -1,18 +1,13 @@
 -- `plan_sum::totals_of` meets its contract. The invariant: the routes before j are counted.
-use borrow.Author.Rules.{rules}
-use mathlib.Core.Path.{◌≡◌, refl, sym, ap, ◌∙◌}
-use Prim.Native.Nat.{ℕ, ◌+◌, ◌-◌, ◌*◌, ◌≤◌, ◌<◌}
-use native.Mathlib.Omega.{arith}
-use Rattle.model.specs.Env.{Env, Rows, Own}
-use mathlib.Core.List.{List}
+use mathlib.Core.Path.{◌≡◌}
+use Prim.Native.Nat.{◌-◌, ◌≤◌}
+use Rattle.model.specs.Env.{Env}
 use lib.ListN.{length}
 use Rattle.model.specs.Mix.{Mix}
 use Rattle.plan_sum.specs.declared.Job.{Job}
-use lib.Ieee.{of_bits}
 use Rattle.plan_sum.specs.Job.{IsJob}
 use Rattle.plan_sum.specs.Ground.{Totalled}
-use Rattle.plan_sum.proofs.Found.{From, chosen, source-from}
-use Rattle.plan_sum.proofs.Steps.{totalled_none}
+use Rattle.plan_sum.proofs.Found.{From}
 use Rattle.plan_sum.proofs.totals_of.Given as goal
 
 abbrev pub invariant-loop-j : goal.invariant-loop-j

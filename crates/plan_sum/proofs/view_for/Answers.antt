@@ -1,5 +1,4 @@
 -- `plan_sum::view_for` meets its contract.
-use borrow.Author.Rules.{rules}
 use Rattle.plan_sum.proofs.view_for.Goals as goal
 
 pub returns : goal.returns

@@ -1,5 +1,4 @@
 -- `plan_sum::voice_row` meets its contract.
-use borrow.Author.Rules.{rules}
 use native.Mathlib.Omega.{arith}
 use Rattle.plan_sum.proofs.Steps.{voice-own, voice-same}
 use Rattle.plan_sum.proofs.voice_row.Goals as goal

@@ -1,6 +1,5 @@
 -- `plan_sum::with_plain` meets its contract.
-use borrow.Author.Rules.{rules}
-use mathlib.Core.Path.{◌≡◌, refl, sym, ap, ◌∙◌}
+use mathlib.Core.Path.{refl}
 use Rattle.plan_sum.proofs.with_plain.Goals as goal
 
 pub returns : goal.returns

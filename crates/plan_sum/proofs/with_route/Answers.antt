@@ -1,6 +1,5 @@
 -- `plan_sum::with_route` meets its contract.
-use borrow.Author.Rules.{rules}
-use mathlib.Core.Path.{◌≡◌, refl, sym, ap, ◌∙◌}
+use mathlib.Core.Path.{refl, sym, ap, ◌∙◌}
 use Rattle.plan_sum.specs.declared.Ground.{Ground}
 use Rattle.plan_sum.proofs.Found.{route-is, plain-is}
 use Rattle.plan_sum.proofs.Steps.{totalled-plain, totalled-other}

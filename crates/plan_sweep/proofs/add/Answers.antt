@@ -1,12 +1,6 @@
-use mathlib.Core.Path.{◌≡◌, refl}
-use mathlib.Core.List.{List}
-use Prim.Native.Nat.{ℕ, ◌+◌, ◌-◌, ◌≤◌}
+use mathlib.Core.Path.{refl}
 use native.Mathlib.Omega.{arith}
-use lib.ListN.{length}
-use lib.Ieee.{Float}
-use Rattle.number.specs.Number.{plus, times}
-use Rattle.model.specs.Counts.{at}
-use Rattle.plan_sum.proofs.Lanes.{Laned, laned-none, laned-more}
+use Rattle.plan_sum.proofs.Lanes.{laned-none, laned-more}
 use borrow.Author.Rules.{rules}
 use Rattle.plan_sweep.proofs.add.Goals as goal
 

@@ -1,14 +1,11 @@
 -- `plan_sweep::add` meets its contract. The invariant: the lanes below l are added to.
-use mathlib.Core.Path.{◌≡◌, refl}
-use mathlib.Core.List.{List}
+use mathlib.Core.Path.{◌≡◌}
 use Prim.Native.Nat.{ℕ, ◌+◌, ◌-◌, ◌≤◌}
-use native.Mathlib.Omega.{arith}
 use lib.ListN.{length}
 use lib.Ieee.{Float}
 use Rattle.number.specs.Number.{plus, times}
 use Rattle.model.specs.Counts.{at}
-use Rattle.plan_sum.proofs.Lanes.{Laned, laned-none, laned-more}
-use borrow.Author.Rules.{rules}
+use Rattle.plan_sum.proofs.Lanes.{Laned}
 use Rattle.plan_sweep.proofs.add.Given as goal
 
 abbrev pub invariant-loop-l : goal.invariant-loop-l

@@ -1,7 +1,6 @@
 use mathlib.Core.Path.{◌≡◌, refl, ap, ◌∙◌}
-use Prim.Native.Nat.{ℕ, ◌+◌, ◌-◌, ◌≤◌, ◌<◌}
+use Prim.Native.Nat.{ℕ, ◌+◌}
 use native.Mathlib.Omega.{arith}
-use Rattle.config.specs.Sizes.{lanes}
 use Rattle.model.specs.Counts.{at}
 use Rattle.plan_sweep.specs.Sweep.{swept}
 use Rattle.plan_sweep.proofs.Laws.{reach, swept_none, swept-more}

@@ -1,5 +1,4 @@
 -- `plan_sweep::after` meets its contract.
-use borrow.Author.Rules.{rules}
 use Rattle.plan_sweep.proofs.after.Goals as goal
 
 pub returns : goal.returns

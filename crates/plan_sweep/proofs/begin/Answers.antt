@@ -1,8 +1,6 @@
 -- `plan_sweep::begin` meets its contract.
-use mathlib.Core.Path.{◌≡◌}
 use lib.ListN.{get_or-replicate}
 use lib.Ieee.{nan}
-use borrow.Author.Rules.{rules}
 use Rattle.plan_sweep.proofs.begin.Goals as goal
 
 pub returns-then-over : goal.returns-then-over

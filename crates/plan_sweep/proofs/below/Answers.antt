@@ -1,6 +1,5 @@
 -- `plan_sweep::below` meets its contract.
 use Rattle.plan_sweep.proofs.Laws.{below-taken, below_left}
-use borrow.Author.Rules.{rules}
 use Rattle.plan_sweep.proofs.below.Goals as goal
 
 pub returns-then-hi-y : goal.returns-then-hi-y

@@ -1,6 +1,4 @@
 -- `plan_sweep::bounds` meets its contract.
-use mathlib.Core.Path.{◌≡◌, sym, ◌∙◌}
-use borrow.Author.Rules.{rules}
 use Rattle.plan_sweep.proofs.bounds.Goals as goal
 
 pub returns-then-pass : goal.returns-then-pass

@@ -1,10 +1,9 @@
 -- `plan_sweep::field_of` meets its contract.
-use mathlib.Core.Path.{◌≡◌, sym, ◌∙◌}
+use mathlib.Core.Path.{sym, ◌∙◌}
 use Prim.Native.Nat.{◌<◌}
 use native.Mathlib.Omega.{arith}
 use Rattle.plan_sum.proofs.Spans.{span-is}
 use Rattle.plan_sweep.proofs.Kept.{fielded}
-use borrow.Author.Rules.{rules}
 use Rattle.plan_sweep.proofs.field_of.Goals as goal
 
 pub returns : goal.returns

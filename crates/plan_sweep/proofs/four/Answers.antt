@@ -1,6 +1,5 @@
 -- `plan_sweep::four` meets its contract.
 use Rattle.plan_sweep.proofs.Fours.{four-steps}
-use borrow.Author.Rules.{rules}
 use Rattle.plan_sweep.proofs.four.Goals as goal
 
 pub returns : goal.returns

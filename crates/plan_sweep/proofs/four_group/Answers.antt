@@ -1,6 +1,5 @@
 -- `plan_sweep::four_group` meets its contract.
 use Rattle.plan_sweep.proofs.Fours.{four-group-done}
-use borrow.Author.Rules.{rules}
 use Rattle.plan_sweep.proofs.four_group.Goals as goal
 
 pub returns : goal.returns

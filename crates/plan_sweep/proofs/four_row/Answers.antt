@@ -1,10 +1,5 @@
-use mathlib.Core.Path.{◌≡◌}
-use Prim.Native.Nat.{◌-◌, ◌*◌, ◌≤◌}
 use native.Mathlib.Omega.{arith}
-use lib.ListN.{length}
-use Rattle.config.specs.Sizes.{lanes}
-use Rattle.model.specs.Tick.{fill_from}
-use Rattle.plan_sweep.proofs.Fours.{four_lane, further-inside, fours-none, fours-more, fours-end}
+use Rattle.plan_sweep.proofs.Fours.{further-inside, fours-none, fours-more, fours-end}
 use borrow.Author.Rules.{rules}
 use Rattle.plan_sweep.proofs.four_row.Goals as goal
 

@@ -1,12 +1,10 @@
 -- `plan_sweep::four_row` meets its contract. The invariant: the groups before k are put.
 use mathlib.Core.Path.{◌≡◌}
 use Prim.Native.Nat.{◌-◌, ◌*◌, ◌≤◌}
-use native.Mathlib.Omega.{arith}
 use lib.ListN.{length}
 use Rattle.config.specs.Sizes.{lanes}
 use Rattle.model.specs.Tick.{fill_from}
-use Rattle.plan_sweep.proofs.Fours.{four_lane, further-inside, fours-none, fours-more, fours-end}
-use borrow.Author.Rules.{rules}
+use Rattle.plan_sweep.proofs.Fours.{four_lane}
 use Rattle.plan_sweep.proofs.four_row.Given as goal
 
 abbrev pub invariant-loop-k : goal.invariant-loop-k

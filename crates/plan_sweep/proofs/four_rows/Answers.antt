@@ -1,10 +1,10 @@
-use mathlib.Core.Path.{◌≡◌, refl, sym}
-use Prim.Native.Nat.{ℕ, ◌+◌, ◌-◌, ◌*◌, ◌≤◌, ◌<◌}
+use mathlib.Core.Path.{refl, sym}
+use Prim.Native.Nat.{ℕ, ◌+◌, ◌*◌, ◌≤◌, ◌<◌}
 use native.Mathlib.Nat.{zero-add, mul-le-mul_right}
 use native.Mathlib.Omega.{arith}
 use lib.ListN.{length}
 use Rattle.list.proofs.Rows.{row_inside}
-use Rattle.plan_sweep.specs.Sweep.{Within, places_at, some_rows}
+use Rattle.plan_sweep.specs.Sweep.{Within, places_at}
 use Rattle.plan_sweep.proofs.Laws.{sooner, rows_none, rows_more, rows_end}
 use Rattle.plan_sweep.proofs.Fours.{up_to, places_same, places-inside, four-row-is}
 use borrow.Author.Rules.{rules}

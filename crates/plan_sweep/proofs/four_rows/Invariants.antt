@@ -1,14 +1,8 @@
 -- `plan_sweep::four_rows` meets its contract. The invariant: the routes are added in the rows before n.
-use mathlib.Core.Path.{◌≡◌, refl, sym}
-use Prim.Native.Nat.{ℕ, ◌+◌, ◌-◌, ◌*◌, ◌≤◌, ◌<◌}
-use native.Mathlib.Nat.{zero-add, mul-le-mul_right}
-use native.Mathlib.Omega.{arith}
+use mathlib.Core.Path.{◌≡◌}
+use Prim.Native.Nat.{◌-◌, ◌≤◌}
 use lib.ListN.{length}
-use Rattle.list.proofs.Rows.{row_inside}
-use Rattle.plan_sweep.specs.Sweep.{Within, places_at, some_rows}
-use Rattle.plan_sweep.proofs.Laws.{sooner, rows_none, rows_more, rows_end}
-use Rattle.plan_sweep.proofs.Fours.{up_to, places_same, places-inside, four-row-is}
-use borrow.Author.Rules.{rules}
+use Rattle.plan_sweep.specs.Sweep.{some_rows}
 use Rattle.plan_sweep.proofs.four_rows.Given as goal
 
 abbrev pub invariant-loop-n : goal.invariant-loop-n

@@ -1,6 +1,5 @@
 -- `plan_sweep::group` meets its contract.
 use Rattle.plan_sweep.proofs.Laws.{group-done}
-use borrow.Author.Rules.{rules}
 use Rattle.plan_sweep.proofs.group.Goals as goal
 
 pub returns : goal.returns

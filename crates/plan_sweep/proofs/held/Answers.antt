@@ -1,8 +1,7 @@
 -- `plan_sweep::held` meets its contract.
-use mathlib.Core.Path.{◌≡◌, ap, ◌∙◌}
+use mathlib.Core.Path.{ap, ◌∙◌}
 use lib.Ieee.{is_nan}
 use Rattle.plan_sweep.proofs.Laws.{max-number, held-is}
-use borrow.Author.Rules.{rules}
 use Rattle.plan_sweep.proofs.held.Goals as goal
 
 pub below-requires : goal.below-requires

@@ -1,13 +1,10 @@
 -- `plan_sweep::hold_lanes` meets its contract. The invariant: the lanes below l are held.
-use mathlib.Core.Path.{◌≡◌, refl}
-use mathlib.Core.List.{List}
-use Prim.Native.Nat.{ℕ, ◌+◌, ◌-◌, ◌≤◌}
-use native.Mathlib.Omega.{arith}
+use mathlib.Core.Path.{◌≡◌}
+use Prim.Native.Nat.{ℕ, ◌-◌, ◌≤◌}
 use lib.ListN.{length}
 use lib.Ieee.{Float}
 use Rattle.number.specs.Number.{hold}
-use Rattle.plan_sum.proofs.Lanes.{Laned, laned-none, laned-more}
-use borrow.Author.Rules.{rules}
+use Rattle.plan_sum.proofs.Lanes.{Laned}
 use Rattle.plan_sweep.proofs.hold_lanes.Given as goal
 
 abbrev pub invariant-loop-l : goal.invariant-loop-l

@@ -1,6 +1,5 @@
 -- `plan_sweep::is_number` meets its contract.
 use Rattle.plan_sweep.proofs.Kept.{number_is}
-use borrow.Author.Rules.{rules}
 use Rattle.plan_sweep.proofs.is_number.Goals as goal
 
 pub returns : goal.returns

@@ -1,9 +1,10 @@
 -- `plan_sweep::is_swept` meets its contract.
-use mathlib.Core.Path.{◌≡◌, refl}
+use mathlib.Core.Path.{ap}
+use mathlib.Core.Bool.{not}
+use mathlib.Core.Path.{refl}
 use native.Mathlib.Omega.{arith}
 use Rattle.lane_input.proofs.Tests.{was-true}
 use Rattle.plan_sweep.proofs.Kept.{never, positive}
-use borrow.Author.Rules.{rules}
 use Rattle.plan_sweep.proofs.is_swept.Goals as goal
 
 pub returns-then-not-field : goal.returns-then-not-field
@@ -31,6 +32,6 @@ returns c = λ h.
       voice = was-true refl c.if-not-plan.false;
       some = positive _ c.if-count-eq0.false;
       routes = omega (arith, c.if-first-count.false, c.if-first-gt-SLOTS.false);
-      number = c.is_number.ensures (was-true refl c.if-not-is_number.false);
+      number = c.is_number.ensures (was-true refl (ap not c.if-not-is_number.false));
       led = c.all_led.ensures h;
     }

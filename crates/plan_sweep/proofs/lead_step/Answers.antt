@@ -1,8 +1,7 @@
 -- `plan_sweep::lead_step` meets its contract.
-use mathlib.Core.Path.{◌≡◌, refl}
+use mathlib.Core.Path.{refl}
 use native.Mathlib.Omega.{arith}
 use Rattle.lane_input.proofs.Tests.{was-true}
-use borrow.Author.Rules.{rules}
 use Rattle.plan_sweep.proofs.lead_step.Goals as goal
 
 pub returns-then-not-route : goal.returns-then-not-route

@@ -1,8 +1,7 @@
-use mathlib.Core.Path.{◌≡◌, refl}
-use Prim.Native.Nat.{◌+◌, ◌-◌, ◌≤◌, ◌<◌}
+use mathlib.Core.Path.{refl}
+use Prim.Native.Nat.{◌+◌, ◌<◌}
 use native.Mathlib.Omega.{arith}
 use lib.ListN.{length}
-use Rattle.plan_sweep.specs.Sweep.{swept_rows, head_of}
 use Rattle.plan_sweep.proofs.Fours.{part-needs, after_open, next_more}
 use borrow.Author.Rules.{rules}
 use Rattle.plan_sweep.proofs.most_rows.Goals as goal

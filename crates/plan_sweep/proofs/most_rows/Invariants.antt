@@ -1,11 +1,8 @@
 -- `plan_sweep::most_rows` meets its contract. The invariant: the first j routes are in the rows, and some are left; where j is 0, the rows are as they were.
-use mathlib.Core.Path.{◌≡◌, refl}
-use Prim.Native.Nat.{◌+◌, ◌-◌, ◌≤◌, ◌<◌}
-use native.Mathlib.Omega.{arith}
+use mathlib.Core.Path.{◌≡◌}
+use Prim.Native.Nat.{◌-◌, ◌<◌}
 use lib.ListN.{length}
 use Rattle.plan_sweep.specs.Sweep.{swept_rows, head_of}
-use Rattle.plan_sweep.proofs.Fours.{part-needs, after_open, next_more}
-use borrow.Author.Rules.{rules}
 use Rattle.plan_sweep.proofs.most_rows.Given as goal
 
 abbrev pub invariant-loop-j : goal.invariant-loop-j

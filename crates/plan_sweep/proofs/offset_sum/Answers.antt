@@ -1,8 +1,6 @@
-use mathlib.Core.Path.{◌≡◌, refl}
-use Prim.Native.Nat.{◌-◌, ◌≤◌}
+use mathlib.Core.Path.{refl}
 use native.Mathlib.Omega.{arith}
 use lib.Ieee.{of_bits}
-use Rattle.plan_sweep.specs.Leads.{offset_sum}
 use Rattle.plan_sweep.proofs.Kept.{offset-none, offset-more, offset-end}
 use borrow.Author.Rules.{rules}
 use Rattle.plan_sweep.proofs.offset_sum.Goals as goal

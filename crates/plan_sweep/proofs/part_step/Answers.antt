@@ -1,7 +1,6 @@
 -- `plan_sweep::part_step` meets its contract.
 use native.Mathlib.Omega.{arith}
 use Rattle.lane_input.proofs.Numbers.{product-bound}
-use borrow.Author.Rules.{rules}
 use Rattle.plan_sweep.proofs.part_step.Goals as goal
 
 pub overflow_mul-rows : goal.overflow_mul-rows

@@ -1,6 +1,5 @@
 -- `plan_sweep::pass_of` meets its contract.
 use Rattle.plan_sweep.proofs.Kept.{pass-is}
-use borrow.Author.Rules.{rules}
 use Rattle.plan_sweep.proofs.pass_of.Goals as goal
 
 pub returns : goal.returns

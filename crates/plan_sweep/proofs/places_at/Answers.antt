@@ -1,5 +1,4 @@
 -- `plan_sweep::places_at` meets its contract.
-use borrow.Author.Rules.{rules}
 use Rattle.plan_sweep.proofs.places_at.Goals as goal
 
 pub returns : goal.returns

@@ -1,9 +1,6 @@
-use mathlib.Core.Path.{◌≡◌, refl, ap, ◌∙◌}
-use Prim.Native.Nat.{ℕ, ◌+◌, ◌-◌, ◌≤◌}
+use mathlib.Core.Path.{refl}
 use native.Mathlib.Omega.{arith}
-use lib.ListN.{length, length-set}
-use Rattle.model.specs.Counts.{at}
-use Rattle.model.specs.Tick.{fill_from}
+use lib.ListN.{length-set}
 use Rattle.plan_slews.proofs.Lanes.{fill_none, fill_more, fill_end}
 use borrow.Author.Rules.{rules}
 use Rattle.plan_sweep.proofs.put.Goals as goal

@@ -1,12 +1,9 @@
 -- `plan_sweep::put` meets its contract. The invariant: the lanes below l are put.
-use mathlib.Core.Path.{◌≡◌, refl, ap, ◌∙◌}
-use Prim.Native.Nat.{ℕ, ◌+◌, ◌-◌, ◌≤◌}
-use native.Mathlib.Omega.{arith}
-use lib.ListN.{length, length-set}
+use mathlib.Core.Path.{◌≡◌}
+use Prim.Native.Nat.{◌-◌, ◌≤◌}
+use lib.ListN.{length}
 use Rattle.model.specs.Counts.{at}
 use Rattle.model.specs.Tick.{fill_from}
-use Rattle.plan_slews.proofs.Lanes.{fill_none, fill_more, fill_end}
-use borrow.Author.Rules.{rules}
 use Rattle.plan_sweep.proofs.put.Given as goal
 
 abbrev pub invariant-loop-l : goal.invariant-loop-l

@@ -1,6 +1,4 @@
 -- `plan_sweep::row_key` meets its contract.
-use mathlib.Core.Path.{◌≡◌}
-use borrow.Author.Rules.{rules}
 use Rattle.plan_sweep.proofs.row_key.Goals as goal
 
 pub returns-in-Signal : goal.returns-in-Signal

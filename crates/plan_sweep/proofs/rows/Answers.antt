@@ -1,10 +1,9 @@
 -- `plan_sweep::rows` meets its contract.
-use mathlib.Core.Path.{◌≡◌, ◌∙◌}
+use mathlib.Core.Path.{◌∙◌}
 use Prim.Native.Nat.{ℕ, ◌+◌, ◌-◌, ◌<◌}
 use native.Mathlib.Omega.{arith}
 use Rattle.plan_sweep.proofs.Laws.{rows-anew}
 use Rattle.plan_sweep.proofs.Fours.{part-asks, all_more}
-use borrow.Author.Rules.{rules}
 use Rattle.plan_sweep.proofs.rows.Goals as goal
 
 pub returns-then-pass-le4 : goal.returns-then-pass-le4

@@ -1,9 +1,8 @@
-use mathlib.Core.Path.{◌≡◌, refl}
-use Prim.Native.Nat.{ℕ, ◌+◌, ◌-◌, ◌≤◌, ◌<◌}
+use mathlib.Core.Path.{refl}
+use Prim.Native.Nat.{ℕ, ◌+◌, ◌<◌}
 use native.Mathlib.Omega.{arith}
 use lib.ListN.{length, length-set}
 use Rattle.model.specs.Counts.{at}
-use Rattle.plan_slews.specs.Rows.{IsRow}
 use Rattle.plan_slews.proofs.Lanes.{row_more}
 use borrow.Author.Rules.{rules}
 use Rattle.plan_sweep.proofs.sixteen.Goals as goal

@@ -1,12 +1,9 @@
 -- `plan_sweep::sixteen` meets its contract. The invariant: the lanes below l are read.
-use mathlib.Core.Path.{◌≡◌, refl}
-use Prim.Native.Nat.{ℕ, ◌+◌, ◌-◌, ◌≤◌, ◌<◌}
-use native.Mathlib.Omega.{arith}
-use lib.ListN.{length, length-set}
+use mathlib.Core.Path.{◌≡◌}
+use Prim.Native.Nat.{ℕ, ◌+◌, ◌-◌, ◌≤◌}
+use lib.ListN.{length}
 use Rattle.model.specs.Counts.{at}
 use Rattle.plan_slews.specs.Rows.{IsRow}
-use Rattle.plan_slews.proofs.Lanes.{row_more}
-use borrow.Author.Rules.{rules}
 use Rattle.plan_sweep.proofs.sixteen.Given as goal
 
 abbrev pub invariant-loop-l : goal.invariant-loop-l

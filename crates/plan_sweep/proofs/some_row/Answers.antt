@@ -1,10 +1,6 @@
-use mathlib.Core.Path.{◌≡◌, refl}
-use Prim.Native.Nat.{ℕ, ◌+◌, ◌-◌, ◌*◌, ◌≤◌}
+use mathlib.Core.Path.{refl}
 use native.Mathlib.Omega.{arith}
-use lib.ListN.{length}
-use Rattle.config.specs.Sizes.{lanes}
-use Rattle.model.specs.Tick.{fill_from}
-use Rattle.plan_sweep.proofs.Laws.{some_lane, groups_none, groups-more, groups-end}
+use Rattle.plan_sweep.proofs.Laws.{groups_none, groups-more, groups-end}
 use borrow.Author.Rules.{rules}
 use Rattle.plan_sweep.proofs.some_row.Goals as goal
 

@@ -1,12 +1,10 @@
 -- `plan_sweep::some_row` meets its contract. The invariant: the groups before g are put.
-use mathlib.Core.Path.{◌≡◌, refl}
-use Prim.Native.Nat.{ℕ, ◌+◌, ◌-◌, ◌*◌, ◌≤◌}
-use native.Mathlib.Omega.{arith}
+use mathlib.Core.Path.{◌≡◌}
+use Prim.Native.Nat.{◌+◌, ◌-◌, ◌*◌, ◌≤◌}
 use lib.ListN.{length}
 use Rattle.config.specs.Sizes.{lanes}
 use Rattle.model.specs.Tick.{fill_from}
-use Rattle.plan_sweep.proofs.Laws.{some_lane, groups_none, groups-more, groups-end}
-use borrow.Author.Rules.{rules}
+use Rattle.plan_sweep.proofs.Laws.{some_lane}
 use Rattle.plan_sweep.proofs.some_row.Given as goal
 
 abbrev pub invariant-loop-g : goal.invariant-loop-g

@@ -1,10 +1,8 @@
-use mathlib.Core.Path.{◌≡◌, sym}
-use Prim.Native.Nat.{◌-◌, ◌*◌, ◌≤◌, ◌<◌}
+use mathlib.Core.Path.{sym}
+use Prim.Native.Nat.{◌*◌, ◌≤◌, ◌<◌}
 use native.Mathlib.Nat.{zero-add, mul-le-mul_right}
 use native.Mathlib.Omega.{arith}
-use lib.ListN.{length}
 use Rattle.list.proofs.Rows.{row_inside}
-use Rattle.plan_sweep.specs.Sweep.{some_rows}
 use Rattle.plan_sweep.proofs.Laws.{sooner, rows_none, rows_more, rows_end}
 use borrow.Author.Rules.{rules}
 use Rattle.plan_sweep.proofs.some_rows.Goals as goal

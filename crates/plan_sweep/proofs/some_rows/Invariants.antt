@@ -1,13 +1,8 @@
 -- `plan_sweep::some_rows` meets its contract. The invariant: the rows before n are put.
-use mathlib.Core.Path.{◌≡◌, sym}
-use Prim.Native.Nat.{◌-◌, ◌*◌, ◌≤◌, ◌<◌}
-use native.Mathlib.Nat.{zero-add, mul-le-mul_right}
-use native.Mathlib.Omega.{arith}
+use mathlib.Core.Path.{◌≡◌}
+use Prim.Native.Nat.{◌-◌, ◌≤◌}
 use lib.ListN.{length}
-use Rattle.list.proofs.Rows.{row_inside}
 use Rattle.plan_sweep.specs.Sweep.{some_rows}
-use Rattle.plan_sweep.proofs.Laws.{sooner, rows_none, rows_more, rows_end}
-use borrow.Author.Rules.{rules}
 use Rattle.plan_sweep.proofs.some_rows.Given as goal
 
 abbrev pub invariant-loop-n : goal.invariant-loop-n

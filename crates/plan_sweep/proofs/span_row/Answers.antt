@@ -1,7 +1,6 @@
 -- `plan_sweep::span_row` meets its contract.
 use mathlib.Core.Path.{◌∙◌}
 use Rattle.plan_sweep.proofs.Laws.{row-anew}
-use borrow.Author.Rules.{rules}
 use Rattle.plan_sweep.proofs.span_row.Goals as goal
 
 pub returns : goal.returns

@@ -1,7 +1,6 @@
 -- `plan_sweep::step` meets its contract.
 use lib.Ieee.{of_bits}
 use Rattle.plan_sweep.proofs.Laws.{step-none, step-some}
-use borrow.Author.Rules.{rules}
 use Rattle.plan_sweep.proofs.step.Goals as goal
 
 pub returns-then-gain : goal.returns-then-gain

@@ -11,7 +11,7 @@ returns c =
     let w = a.sweep in
     let sums = c.put_sums in
     λ t x f s k all.
-    let held : IsRow w.pass.width (held_sum t f s x) sums.new.0 =
+    let held : IsRow w.pass.width (held_sum t f s x) sums.new.rows =
     sums-are a.starts.now a.steps.now a.gains.now a.samples.now w.pass w.base w.frame c.requires.2 t x f s _ _ (search rules) all sums.ensures in
     rows-any t x f s a.tick k a.values.now a.from w.pass.width c.from_row-begins.result c.to_row-ends.result _ _
     (c.from_row-begins.ensures t x f s k held)

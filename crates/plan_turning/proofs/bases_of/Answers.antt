@@ -1,13 +1,12 @@
 use lib.Ieee.{Float}
-use mathlib.Core.Path.{◌≡◌, ap, ◌∙◌}
+use mathlib.Core.Path.{ap, ◌∙◌}
 use native.Mathlib.Omega.{arith}
-use Prim.Native.Nat.{ℕ, ◌-◌, ◌≤◌, ◌<◌}
+use Prim.Native.Nat.{ℕ, ◌<◌}
 use lib.ListN.{length, get_or, length-set}
 use Rattle.list.proofs.Elements.{get_or-inside, length-mapped}
 use Rattle.state_filled.specs.Filled.{no_plan}
 use Rattle.state.specs.declared.Plan.{Plan}
 use Rattle.plan_sum.specs.Job.{base_by}
-use Rattle.plan_slews.specs.Rows.{IsRow}
 use Rattle.plan_slews.proofs.Lanes.{row_more}
 use borrow.Author.Rules.{rules}
 use Rattle.plan_turning.proofs.bases_of.Goals as goal

@@ -1,16 +1,10 @@
 -- `plan_turning::bases_of` meets its contract. The invariant: the bases of the plans before d are found.
-use lib.Ieee.{Float}
-use mathlib.Core.Path.{◌≡◌, ap, ◌∙◌}
-use native.Mathlib.Omega.{arith}
-use Prim.Native.Nat.{ℕ, ◌-◌, ◌≤◌, ◌<◌}
-use lib.ListN.{length, get_or, length-set}
-use Rattle.list.proofs.Elements.{get_or-inside, length-mapped}
+use mathlib.Core.Path.{◌≡◌}
+use Prim.Native.Nat.{ℕ, ◌-◌, ◌≤◌}
+use lib.ListN.{length, get_or}
 use Rattle.state_filled.specs.Filled.{no_plan}
-use Rattle.state.specs.declared.Plan.{Plan}
 use Rattle.plan_sum.specs.Job.{base_by}
 use Rattle.plan_slews.specs.Rows.{IsRow}
-use Rattle.plan_slews.proofs.Lanes.{row_more}
-use borrow.Author.Rules.{rules}
 use Rattle.plan_turning.proofs.bases_of.Given as goal
 
 abbrev pub invariant-loop-d : goal.invariant-loop-d

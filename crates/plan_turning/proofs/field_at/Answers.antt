@@ -1,7 +1,6 @@
 -- `plan_turning::field_at` meets its contract.
 use Rattle.plan_sweep.proofs.Kept.{never}
 use Rattle.plan_turning.proofs.Turned.{no_field}
-use borrow.Author.Rules.{rules}
 use Rattle.plan_turning.proofs.field_at.Goals as goal
 
 pub returns-then-not-some : goal.returns-then-not-some

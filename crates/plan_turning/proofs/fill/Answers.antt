@@ -1,8 +1,6 @@
-use mathlib.Core.Path.{◌≡◌, refl}
+use mathlib.Core.Path.{refl}
 use native.Mathlib.Omega.{arith}
-use Prim.Native.Nat.{ℕ, ◌-◌, ◌≤◌}
-use lib.ListN.{length, length-set}
-use Rattle.model.specs.Tick.{fill_from}
+use lib.ListN.{length-set}
 use Rattle.plan_slews.proofs.Lanes.{fill_none, fill_more, fill_end}
 use borrow.Author.Rules.{rules}
 use Rattle.plan_turning.proofs.fill.Goals as goal

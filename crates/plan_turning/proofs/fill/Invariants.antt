@@ -1,11 +1,8 @@
 -- `plan_turning::fill` meets its contract. The invariant: the lanes below l are filled.
-use mathlib.Core.Path.{◌≡◌, refl}
-use native.Mathlib.Omega.{arith}
+use mathlib.Core.Path.{◌≡◌}
 use Prim.Native.Nat.{ℕ, ◌-◌, ◌≤◌}
-use lib.ListN.{length, length-set}
+use lib.ListN.{length}
 use Rattle.model.specs.Tick.{fill_from}
-use Rattle.plan_slews.proofs.Lanes.{fill_none, fill_more, fill_end}
-use borrow.Author.Rules.{rules}
 use Rattle.plan_turning.proofs.fill.Given as goal
 
 abbrev pub invariant-loop-l : goal.invariant-loop-l

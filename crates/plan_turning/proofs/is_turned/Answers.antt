@@ -1,7 +1,6 @@
 -- `plan_turning::is_turned` meets its contract.
 use native.Mathlib.Omega.{arith}
 use Rattle.plan_sweep.proofs.Kept.{never}
-use borrow.Author.Rules.{rules}
 use Rattle.plan_turning.proofs.is_turned.Goals as goal
 
 pub returns-then-len-from : goal.returns-then-len-from

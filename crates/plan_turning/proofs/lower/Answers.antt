@@ -1,8 +1,6 @@
-use mathlib.Core.Path.{◌≡◌, refl}
+use mathlib.Core.Path.{refl}
 use native.Mathlib.Omega.{arith}
-use Prim.Native.Nat.{◌+◌, ◌-◌, ◌≤◌}
-use lib.ListN.{length, length-set}
-use Rattle.model.specs.Tick.{fill_from, lanes_from}
+use lib.ListN.{length-set}
 use Rattle.plan_slews.proofs.Lanes.{fill_none, fill_end}
 use Rattle.plan_turning.proofs.Rows.{lower-more}
 use borrow.Author.Rules.{rules}

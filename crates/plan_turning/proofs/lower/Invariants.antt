@@ -1,12 +1,8 @@
 -- `plan_turning::lower` meets its contract. The invariant: the lanes below l are copied.
-use mathlib.Core.Path.{◌≡◌, refl}
-use native.Mathlib.Omega.{arith}
+use mathlib.Core.Path.{◌≡◌}
 use Prim.Native.Nat.{◌+◌, ◌-◌, ◌≤◌}
-use lib.ListN.{length, length-set}
+use lib.ListN.{length}
 use Rattle.model.specs.Tick.{fill_from, lanes_from}
-use Rattle.plan_slews.proofs.Lanes.{fill_none, fill_end}
-use Rattle.plan_turning.proofs.Rows.{lower-more}
-use borrow.Author.Rules.{rules}
 use Rattle.plan_turning.proofs.lower.Given as goal
 
 abbrev pub invariant-loop-l : goal.invariant-loop-l

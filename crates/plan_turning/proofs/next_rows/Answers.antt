@@ -5,7 +5,6 @@ use Prim.Native.Nat.{◌+◌}
 use lib.Ieee.{Float}
 use Rattle.model.specs.Tick.{fill_from}
 use Rattle.plan_turning.specs.Turns.{sum_at}
-use borrow.Author.Rules.{rules}
 use Rattle.plan_turning.proofs.next_rows.Goals as goal
 
 pub returns : goal.returns

@@ -3,7 +3,6 @@ use mathlib.Core.Path.{ap}
 use Prim.Native.Nat.{ℕ, ◌*◌}
 use native.Mathlib.Omega.{arith}
 use Rattle.lane_input.proofs.Numbers.{product-bound}
-use borrow.Author.Rules.{rules}
 use Rattle.plan_turning.proofs.plan_from.Goals as goal
 
 pub overflow_mul-result : goal.overflow_mul-result

@@ -1,7 +1,6 @@
 -- `plan_turning::put_sums` meets its contract.
 use native.Mathlib.Omega.{arith}
 use Rattle.plan_turning.proofs.Rows.{sums-row}
-use borrow.Author.Rules.{rules}
 use Rattle.plan_turning.proofs.put_sums.Goals as goal
 
 pub overflow_sub-pass : goal.overflow_sub-pass

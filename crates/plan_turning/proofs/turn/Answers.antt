@@ -4,7 +4,6 @@ use native.Mathlib.Omega.{arith}
 use Rattle.plan_sweep.specs.declared.Pass.{Pass}
 use Rattle.plan_turning.specs.Turns.{Sums, turned}
 use Rattle.plan_turning.proofs.Turned.{within}
-use borrow.Author.Rules.{rules}
 use Rattle.plan_turning.proofs.turn.Goals as goal
 
 pub put_rows-requires : goal.put_rows-requires

@@ -1,16 +1,13 @@
-use Rattle.plan_turning.specs.Turns.{Prepared, turned}
-use mathlib.Core.Path.{◌≡◌, refl, ap, ◌∙◌}
+use mathlib.Core.Bool.{not}
+use Rattle.plan_turning.specs.Turns.{turned}
+use mathlib.Core.Path.{refl, ap, ◌∙◌}
 use native.Mathlib.Omega.{arith}
-use mathlib.Core.List.{List}
-use Prim.Native.Nat.{ℕ, ◌-◌, ◌≤◌, ◌<◌}
+use Prim.Native.Nat.{ℕ, ◌<◌}
 use lib.ListN.{length}
-use lib.Ieee.{Float}
 use Rattle.list.proofs.Elements.{get_or-inside, length-mapped}
 use Rattle.state_filled.specs.Filled.{no_plan}
-use Rattle.state.specs.declared.State.{State}
-use Rattle.model.specs.Env.{Env}
 use Rattle.model.specs.Mix.{plan_mix}
-use Rattle.model.specs.Tick.{rows_of, own_of, turns}
+use Rattle.model.specs.Tick.{rows_of, own_of}
 use Rattle.lane_input.proofs.Tests.{was-true}
 use Rattle.plan_turning.proofs.Turned.{sums-of, ticks-of, plan-turned, turns_more}
 use borrow.Author.Rules.{rules}
@@ -24,7 +21,7 @@ returns-then-not-is_turned c = let i = c.loop-d in (i.invariant.0, i.invariant.1
 
 pub turn-requires : goal.turn-requires
 turn-requires c =
-    let fit = c.is_turned.ensures (was-true refl c.if-not-is_turned.false) in
+    let fit = c.is_turned.ensures (was-true refl (ap not c.if-not-is_turned.false)) in
     (c.requires.0, fit.0, fit.1)
 
 pub loop-d-preserved : goal.loop-d-preserved
@@ -33,7 +30,7 @@ loop-d-preserved c =
     let i = c.loop-d in
     let near : i.d < a.round.control = omega (arith, c.loop-d-test.true) in
     let there : i.d < length a.plans = omega (arith, i.invariant.3, c.requires.0.control) in
-    let fit = c.is_turned.ensures (was-true refl c.if-not-is_turned.false) in (
+    let fit = c.is_turned.ensures (was-true refl (ap not c.if-not-is_turned.false)) in (
       omega (arith, i.invariant.0),
       omega arith,
       search rules,

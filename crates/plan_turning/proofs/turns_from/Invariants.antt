@@ -1,20 +1,13 @@
 -- `plan_turning::turns_from` meets its contract. The invariant: the plans before d had their turn.
-use Rattle.plan_turning.specs.Turns.{Prepared, turned}
-use mathlib.Core.Path.{◌≡◌, refl, ap, ◌∙◌}
-use native.Mathlib.Omega.{arith}
+use Rattle.plan_turning.specs.Turns.{Prepared}
+use mathlib.Core.Path.{◌≡◌}
 use mathlib.Core.List.{List}
-use Prim.Native.Nat.{ℕ, ◌-◌, ◌≤◌, ◌<◌}
+use Prim.Native.Nat.{◌-◌, ◌≤◌}
 use lib.ListN.{length}
 use lib.Ieee.{Float}
-use Rattle.list.proofs.Elements.{get_or-inside, length-mapped}
-use Rattle.state_filled.specs.Filled.{no_plan}
 use Rattle.state.specs.declared.State.{State}
 use Rattle.model.specs.Env.{Env}
-use Rattle.model.specs.Mix.{plan_mix}
-use Rattle.model.specs.Tick.{rows_of, own_of, turns}
-use Rattle.lane_input.proofs.Tests.{was-true}
-use Rattle.plan_turning.proofs.Turned.{sums-of, ticks-of, plan-turned, turns_more}
-use borrow.Author.Rules.{rules}
+use Rattle.model.specs.Tick.{turns}
 use Rattle.plan_turning.proofs.turns_from.Given as goal
 
 abbrev pub invariant-loop-d : goal.invariant-loop-d

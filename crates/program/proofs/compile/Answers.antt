@@ -2,7 +2,7 @@
 use mathlib.Core.Path.{◌≡◌, sym, ap, ◌∙◌}
 use Prim.Native.Nat.{◌≤◌}
 use lib.Ieee.{Float}
-use lib.ListN.{length, length-map}
+use lib.ListN.{length}
 use mathlib.Core.List.{List}
 use Rattle.config.specs.Sizes.{slots}
 use Rattle.state.specs.declared.Wiring.{Wiring}
@@ -15,44 +15,44 @@ pub returns-then-early-ne0 : goal.returns-then-early-ne0
 returns-then-early-ne0 c =
     let a = c.args in
     let w : Wiring = record { matrix = a.matrix; sources = a.sources; dests = a.dests; config = a.config } in
-    let mt : List Float = a.matrix-tables.now in
+    let mt : List Float = a.matrix_tables.now in
     let l : Memories = record { values = a.values.now; audio = a.audio.now; tables = a.tables.now } in
     let m = compile-early w mt l _ (sym c.early_code-early.ensures) c.if-early-ne0.true in
-    (c.refused.ensures ∙ sym (ap (λ (x : Made). x.answer) m), sym (ap (λ (x : Made). x.lent) m))
+    record { answer = c.refused.ensures ∙ sym (ap (λ (x : Made). x.answer) m); lent = sym (ap (λ (x : Made). x.lent) m) }
 
 pub returns-then-tables_short : goal.returns-then-tables_short
 returns-then-tables_short c =
     let a = c.args in
     let w : Wiring = record { matrix = a.matrix; sources = a.sources; dests = a.dests; config = a.config } in
-    let mt : List Float = a.matrix-tables.now in
+    let mt : List Float = a.matrix_tables.now in
     let l : Memories = record { values = a.values.now; audio = a.audio.now; tables = a.tables.now } in
-    let long : length a.matrix.slot ≡ slots = simp length-map at c.well_formed.0.1.1.0.1.0.1 in
+    let long : length a.matrix.slot ≡ slots = c.well_formed.0.1.1.0.1.0.1 in
     let e = sym c.early_code-early.ensures ∙ c.if-early-ne0.false in
     let p = c.compiled-program.result in
     let is = c.compiled-program.ensures in
     let m = refused-by-tables w mt l long e p is (sym c.tables_short.ensures ∙ c.if-tables_short.true) in
-    (c.refused-then-tables_short.ensures ∙ sym (ap (λ (x : Made). x.answer) m), sym (ap (λ (x : Made). x.lent) m))
+    record { answer = c.refused-then-tables_short.ensures ∙ sym (ap (λ (x : Made). x.answer) m); lent = sym (ap (λ (x : Made). x.lent) m) }
 
 pub returns-then-memory_short : goal.returns-then-memory_short
 returns-then-memory_short c =
     let a = c.args in
     let w : Wiring = record { matrix = a.matrix; sources = a.sources; dests = a.dests; config = a.config } in
-    let mt : List Float = a.matrix-tables.now in
+    let mt : List Float = a.matrix_tables.now in
     let l : Memories = record { values = a.values.now; audio = a.audio.now; tables = a.tables.now } in
-    let long : length a.matrix.slot ≡ slots = simp length-map at c.well_formed.0.1.1.0.1.0.1 in
+    let long : length a.matrix.slot ≡ slots = c.well_formed.0.1.1.0.1.0.1 in
     let e = sym c.early_code-early.ensures ∙ c.if-early-ne0.false in
     let p = c.compiled-program.result in
     let is = c.compiled-program.ensures in
     let m = refused-by-memory w mt l long e p is (sym c.tables_short.ensures ∙ c.if-tables_short.false) (sym c.memory_short.ensures ∙ c.if-memory_short.true) in
-    (c.refused-then-memory_short.ensures ∙ sym (ap (λ (x : Made). x.answer) m), sym (ap (λ (x : Made). x.lent) m))
+    record { answer = c.refused-then-memory_short.ensures ∙ sym (ap (λ (x : Made). x.answer) m); lent = sym (ap (λ (x : Made). x.lent) m) }
 
 pub zero-requires : goal.zero-requires
 zero-requires c =
     let a = c.args in
     let w : Wiring = record { matrix = a.matrix; sources = a.sources; dests = a.dests; config = a.config } in
-    let mt : List Float = a.matrix-tables.now in
+    let mt : List Float = a.matrix_tables.now in
     let l : Memories = record { values = a.values.now; audio = a.audio.now; tables = a.tables.now } in
-    let long : length a.matrix.slot ≡ slots = simp length-map at c.well_formed.0.1.1.0.1.0.1 in
+    let long : length a.matrix.slot ≡ slots = c.well_formed.0.1.1.0.1.0.1 in
     let e = sym c.early_code-early.ensures ∙ c.if-early-ne0.false in
     let p = c.compiled-program.result in
     let is = c.compiled-program.ensures in
@@ -62,9 +62,9 @@ pub zero-requires-2 : goal.zero-requires-2
 zero-requires-2 c =
     let a = c.args in
     let w : Wiring = record { matrix = a.matrix; sources = a.sources; dests = a.dests; config = a.config } in
-    let mt : List Float = a.matrix-tables.now in
+    let mt : List Float = a.matrix_tables.now in
     let l : Memories = record { values = a.values.now; audio = a.audio.now; tables = a.tables.now } in
-    let long : length a.matrix.slot ≡ slots = simp length-map at c.well_formed.0.1.1.0.1.0.1 in
+    let long : length a.matrix.slot ≡ slots = c.well_formed.0.1.1.0.1.0.1 in
     let e = sym c.early_code-early.ensures ∙ c.if-early-ne0.false in
     let p = c.compiled-program.result in
     let is = c.compiled-program.ensures in
@@ -74,11 +74,11 @@ pub returns : goal.returns
 returns c =
     let a = c.args in
     let w : Wiring = record { matrix = a.matrix; sources = a.sources; dests = a.dests; config = a.config } in
-    let mt : List Float = a.matrix-tables.now in
+    let mt : List Float = a.matrix_tables.now in
     let l : Memories = record { values = a.values.now; audio = a.audio.now; tables = a.tables.now } in
-    let long : length a.matrix.slot ≡ slots = simp length-map at c.well_formed.0.1.1.0.1.0.1 in
+    let long : length a.matrix.slot ≡ slots = c.well_formed.0.1.1.0.1.0.1 in
     let e = sym c.early_code-early.ensures ∙ c.if-early-ne0.false in
     let p = c.compiled-program.result in
     let is = c.compiled-program.ensures in
     let m = made w mt l long e p is (sym c.tables_short.ensures ∙ c.if-tables_short.false) (sym c.memory_short.ensures ∙ c.if-memory_short.false) in
-    (sym (ap (λ (x : Made). x.answer) m), rw (c.zero.ensures, c.values_need.ensures, c.zero-2.ensures, c.audio_need.ensures, c.copy_tables.ensures) (sym (ap (λ (x : Made). x.lent) m)))
+    record { answer = sym (ap (λ (x : Made). x.answer) m); lent = rw (c.zero.ensures, c.values_need.ensures, c.zero-2.ensures, c.audio_need.ensures, c.copy_tables.ensures) (sym (ap (λ (x : Made). x.lent) m)) }

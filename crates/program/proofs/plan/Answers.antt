@@ -18,7 +18,8 @@ unfolding plan_at plan_count
 returns-then-held-i c =
     let a = c.args in
     let past : min a.program.plans slots ≤ a.i = omega (arith, c.held.ensures, c.if-held-i.true) in
-    plan-said a.program a.i _ (rw (le-ltb _ _ past))
+    let said = plan-said a.program a.i W.Nothing (rw (le-ltb _ _ past)) in
+    record { value = said.0; reply = said.1 }
 
 pub returns : goal.returns
 unfolding plan_at plan_count
@@ -26,4 +27,5 @@ returns c =
     let a = c.args in
     let inside : a.i < min a.program.plans slots = omega (arith, c.held.ensures, c.if-held-i.false) in
     let long : length a.program.plan ≡ slots = search (rules, length-mapped) in
-    plan-said a.program a.i _ (rw (lt-ltb _ _ inside) (ap W.Plan (get_or-inside a.program.plan a.i _ no_plan (omega arith))))
+    let said = plan-said a.program a.i _ (rw (lt-ltb _ _ inside) (ap W.Plan (get_or-inside a.program.plan a.i _ no_plan (omega arith)))) in
+    record { value = said.0; reply = said.1 }

@@ -24,8 +24,9 @@ returns-then-p-dest c =
     let l = c.loop-i in
     let m = min a.program.plans slots in
     let from = stored-from a.program.plan m l.invariant.1 l.i _ (omega (arith, c.held-n.ensures)) in
-    rate-said a.program a.dest _
-    (c.rate_by.ensures ∙ sym (rate-here (take m a.program.plan) a.dest l.i _ from l.invariant.2 c.if-p-dest.true))
+    let said = rate-said a.program a.dest c.rate_by.result
+    (c.rate_by.ensures ∙ sym (rate-here (take m a.program.plan) a.dest l.i _ from l.invariant.2 c.if-p-dest.true)) in
+    record { value = said.0; reply = said.1 }
 
 pub loop-i-preserved : goal.loop-i-preserved
 loop-i-preserved c =
@@ -42,4 +43,5 @@ returns c =
     let l = c.loop-i in
     let m = min a.program.plans slots in
     let end = stored-end a.program.plan m l.invariant.1 l.i (omega (arith, c.held-n.ensures)) in
-    rate-said a.program a.dest _ (sym (no-rate (take m a.program.plan) a.dest l.i end l.invariant.2))
+    let said = rate-said a.program a.dest _ (sym (no-rate (take m a.program.plan) a.dest l.i end l.invariant.2)) in
+    record { value = said.0; reply = said.1 }

@@ -18,7 +18,8 @@ unfolding route_at route_count
 returns-then-held-i c =
     let a = c.args in
     let past : min a.program.routes slots ≤ a.i = omega (arith, c.held.ensures, c.if-held-i.true) in
-    route-said a.program a.i _ (rw (le-ltb _ _ past))
+    let said = route-said a.program a.i W.Nothing (rw (le-ltb _ _ past)) in
+    record { value = said.0; reply = said.1 }
 
 pub returns : goal.returns
 unfolding route_at route_count
@@ -26,4 +27,5 @@ returns c =
     let a = c.args in
     let inside : a.i < min a.program.routes slots = omega (arith, c.held.ensures, c.if-held-i.false) in
     let long : length a.program.route ≡ slots = search (rules, length-mapped) in
-    route-said a.program a.i _ (rw (lt-ltb _ _ inside) (ap W.Route (get_or-inside a.program.route a.i _ no_route (omega arith))))
+    let said = route-said a.program a.i _ (rw (lt-ltb _ _ inside) (ap W.Route (get_or-inside a.program.route a.i _ no_route (omega arith)))) in
+    record { value = said.0; reply = said.1 }

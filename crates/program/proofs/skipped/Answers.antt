@@ -18,7 +18,8 @@ unfolding skipped_at skip_count
 returns-then-held-i c =
     let a = c.args in
     let past : min a.program.skips slots ≤ a.i = omega (arith, c.held.ensures, c.if-held-i.true) in
-    skipped-said a.program a.i _ (rw (le-ltb _ _ past))
+    let said = skipped-said a.program a.i W.Nothing (rw (le-ltb _ _ past)) in
+    record { value = said.0; reply = said.1 }
 
 pub returns : goal.returns
 unfolding skipped_at skip_count
@@ -26,4 +27,5 @@ returns c =
     let a = c.args in
     let inside : a.i < min a.program.skips slots = omega (arith, c.held.ensures, c.if-held-i.false) in
     let long : length a.program.skipped ≡ slots = search (rules, length-mapped) in
-    skipped-said a.program a.i _ (rw (lt-ltb _ _ inside) (ap W.Skipped (get_or-inside a.program.skipped a.i _ no_skip (omega arith))))
+    let said = skipped-said a.program a.i _ (rw (lt-ltb _ _ inside) (ap W.Skipped (get_or-inside a.program.skipped a.i _ no_skip (omega arith)))) in
+    record { value = said.0; reply = said.1 }

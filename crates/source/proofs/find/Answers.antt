@@ -11,10 +11,12 @@ pub returns-then-key-gt-KEY_BYTES : goal.returns-then-key-gt-KEY_BYTES
 unfolding find_source judged
 returns-then-key-gt-KEY_BYTES c =
     let a = c.args in
-    find-said a.sources a.key.now _ (simp (lt-ltb _ _ c.if-key-gt-KEY_BYTES.true))
+    let said = find-said a.sources a.key.now _ (simp (lt-ltb _ _ c.if-key-gt-KEY_BYTES.true)) in
+    record { value = said.0; reply = said.1 }
 
 pub returns : goal.returns
 unfolding find_source judged
 returns c =
     let a = c.args in
-    find-said a.sources a.key.now _ (c.find_key.ensures ∙ simp (le-ltb _ _ c.if-key-gt-KEY_BYTES.false))
+    let said = find-said a.sources a.key.now _ (c.find_key.ensures ∙ simp (le-ltb _ _ c.if-key-gt-KEY_BYTES.false)) in
+    record { value = said.0; reply = said.1 }

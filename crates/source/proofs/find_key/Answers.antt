@@ -4,7 +4,7 @@ use mathlib.Core.List.{List}
 use Prim.Native.Nat.{ℕ, ◌-◌, ◌≤◌, ◌<◌}
 use native.Mathlib.Omega.{arith}
 use borrow.Author.Rules.{rules}
-use lib.ListN.{length, get_or, drop, length-map}
+use lib.ListN.{length, get_or, drop}
 use Rattle.config.specs.Sizes.{most_sources}
 use Rattle.source.specs.Keys.{key_is}
 use Rattle.state.specs.declared.Sources.{Sources}
@@ -26,7 +26,7 @@ pub returns-then-key_is : goal.returns-then-key_is
 returns-then-key_is c =
     let s = c.args.sources in
     let key = c.args.key.now in
-    let long : length s.entry ≡ most_sources = simp length-map at c.well_formed.0.1.1.1.0.1.0.1 in
+    let long : length s.entry ≡ most_sources = omega arith in
     let t = told s key c.loop-i.i _ _ long (omega arith) c.key_is.ensures c.if-key_is.true in
     sym (c.loop-i.invariant.2 ∙ find-here key (registered s) c.loop-i.i past_end t.0 t.1)
 
@@ -34,7 +34,7 @@ pub loop-i-preserved : goal.loop-i-preserved
 loop-i-preserved c =
     let s = c.args.sources in
     let key = c.args.key.now in
-    let long : length s.entry ≡ most_sources = simp length-map at c.well_formed.0.1.1.1.0.1.0.1 in
+    let long : length s.entry ≡ most_sources = omega arith in
     let t = told s key c.loop-i.i _ _ long (omega arith) c.key_is.ensures c.if-key_is.false in
     (search rules, c.loop-i.invariant.1, c.loop-i.invariant.2 ∙ find-next key (registered s) c.loop-i.i past_end t.0 t.1)
 
@@ -42,5 +42,5 @@ pub returns : goal.returns
 returns c =
     let s = c.args.sources in
     let key = c.args.key.now in
-    let long : length s.entry ≡ most_sources = simp length-map at c.well_formed.0.1.1.1.0.1.0.1 in
+    let long : length s.entry ≡ most_sources = omega arith in
     sym (c.loop-i.invariant.2 ∙ find_past key (registered s) c.loop-i.i (omega (arith, registered-length s long)))

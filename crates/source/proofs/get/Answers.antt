@@ -2,7 +2,7 @@
 use mathlib.Core.Path.{◌≡◌}
 use Prim.Native.Nat.{◌≤◌, ◌<◌}
 use native.Mathlib.Omega.{arith}
-use lib.ListN.{length, length-map}
+use lib.ListN.{length}
 use borrow.Author.Tests.{lt-ltb, le-ltb}
 use Rattle.config.specs.Sizes.{most_sources}
 use Rattle.source.proofs.Registry.{past_end, registered-at}
@@ -15,7 +15,7 @@ pub returns-then-id-len : goal.returns-then-id-len
 unfolding get_source
 returns-then-id-len c =
     let s = c.args.sources in
-    let long : length s.entry ≡ most_sources = simp length-map at c.well_formed.0.1.1.1.0.1.0.1 in
+    let long : length s.entry ≡ most_sources = search rules in
     let inside : c.args.id < source_count s = omega arith in
     rw (lt-ltb _ _ inside, registered-at s c.args.id blankEntry past_end long inside)
 

@@ -6,7 +6,7 @@ use lib.ListN.{length}
 use Rattle.trace_print_kept.proofs.lanes.flags.Given as goal
 
 abbrev pub invariant-loop-v : goal.invariant-loop-v
-invariant-loop-v l = (length l.p ≡ length l.initial.out) × (l.lanes ≤ 64)
+invariant-loop-v l = (length l.out ≡ length l.initial.out) × (l.lanes ≤ 64)
 
 abbrev pub decreases-loop-v : goal.decreases-loop-v
-decreases-loop-v l = l.lanes - v
+decreases-loop-v l = l.lanes - l.v
