@@ -7,7 +7,7 @@ ghost use Rattle.std.specs.Prelude.{◌<◌};
 mod digits;
 
 use digits::Seen;
-use libc::STDIN_FILENO;
+use std::io::{Stdin, Stdout};
 use trace_session::Session;
 
 // none where the input is over, or no more of it matters, else one less
@@ -25,12 +25,13 @@ fn fewer(left: u64, done: bool, other: bool) -> u64
 }
 
 // The case number on standard input, which is read in pieces, at most 2^62 of them; 0 where there is none.
-fn asked() -> u64 {
+fn asked(stdin: Stdin) -> u64 {
+    let mut from = stdin;
     let mut buffer = [0u8; 65536];
     let mut seen = Seen::Nothing;
     let mut left = 4611686018427387904u64;
     while 0 < left {
-        let n = io::read_full(STDIN_FILENO, &mut buffer);
+        let n = streams::read(&mut from, &mut buffer);
         let next = digits::after_all(seen, trace_input_session::part(&buffer, 0, n));
         seen = next;
         left = fewer(left, n < 65536, digits::is_other(seen));
@@ -58,6 +59,7 @@ fn played(
     text: &[u8],
     at: usize,
     end: usize,
+    stdout: Stdout,
     out: &mut [u8],
     book: &mut [usize],
     desk: &mut [f32],
@@ -72,6 +74,7 @@ fn played(
         0,
         true,
         trace_input_session::part(text, at, end),
+        stdout,
         out,
         book,
         desk,
@@ -84,6 +87,7 @@ fn played(
 // Plays a session's lines and prints what they answer.
 fn play_lines(
     text: &[u8],
+    stdout: Stdout,
     out: &mut [u8],
     book: &mut [usize],
     desk: &mut [f32],
@@ -95,15 +99,17 @@ fn play_lines(
     let mut at = 0usize;
     while at < text.len() {
         let end = trace_input_lines::line_end(text, at, text.len());
-        let next = played(s, text, at, end, out, book, desk, values, audio, pool);
+        let next = played(
+            s, text, at, end, stdout, out, book, desk, values, audio, pool,
+        );
         s = next;
         at = past(at, end, text.len());
     }
-    trace_output_show::flush(out, trace_session::waiting(s));
+    trace_output_show::flush(stdout, out, trace_session::waiting(s));
 }
 
 // Plays a case, with memories that are more than it needs.
-fn play_case(text: &[u8]) {
+fn play_case(stdout: Stdout, text: &[u8]) {
     let mut out = [0u8; 1024];
     let mut book = [0usize; trace_dispatch::BOOK];
     let mut desk = [0.0f32; trace_dispatch::DESK];
@@ -112,6 +118,7 @@ fn play_case(text: &[u8]) {
     let mut pool = [0.0f32; 4096];
     play_lines(
         text,
+        stdout,
         &mut out,
         &mut book,
         &mut desk,
@@ -121,20 +128,23 @@ fn play_case(text: &[u8]) {
     );
 }
 
-fn main() {
-    let case = asked();
+fn main(rt: HostRuntime) {
+    let case = asked(rt.stdin());
     if case == 5 {
         play_case(
+            rt.stdout(),
             b"print cases\nconfig 473B8000 64 1\nsource one constant g u\ndest p:0 g control 00000000 3F800000 -\nslot 0 src=0 dst=p:0 amt=3F000000 out=3F800000\ncompile P\nengine\nset_base 0 3E800000\nswap P\nprocess 0 64\n",
         );
     }
     if case == 10 {
         play_case(
+            rt.stdout(),
             b"print cases\nconfig 473B8000 64 1\nsource one constant g u\ndest p:0 g control 00000000 3F800000 -\nslot 0 src=0 dst=p:0 amt=3F000000 out=3F800000\ncompile P\nengine\nset_base 0 3E800000\nprocess 0 5\nnote_on 0 42700000 3F800000 0 00000000\nvoice_ended 0\nswap P\nprocess 0 27\n",
         );
     }
     if case == 13 {
         play_case(
+            rt.stdout(),
             b"print cases\nconfig 473B8000 64 1\nsource one constant g u\ndest p:0 g control 00000000 3F800000 -\ndest p:1 g control 00000000 3F800000 amt:0\nslot 0 src=0 dst=p:0 amt=3F000000 out=3F800000\nslot 1 src=0 dst=p:1 amt=3E800000 out=3F800000\ncompile P\nengine\nset_base 0 3E800000\nswap P\nprocess 0 64\n",
         );
     }

@@ -6,7 +6,7 @@ use Prim.Native.Nat.{ℕ}
 use lib.Dec.{eqb}
 use Rattle.refusal.specs.Judge.{Row, judged}
 use Rattle.model.specs.World.{World}
-use Rattle.model.specs.Settings.{Done, done_by}
+use Rattle.model.specs.Settings.{done_by}
 
 -- a part of one of two worlds
 part_by : {A : Type 0} (b : Bool) (x y : World) (f : World → A) → cond b (f x) (f y) ≡ f (cond b x y)

@@ -25,7 +25,7 @@ use Rattle.engine_notes.specs.declared.Setting.{Setting}
 use Rattle.engine_notes.specs.declared.Sounding.{Sounding}
 use Rattle.engine_notes.specs.Noting.{Inside, held_in, sound_on, held_on, sound_ended}
 use Rattle.engine_notes.specs.Parts.{lane_in, sounding_of, state_with, setting_of}
-use Rattle.engine_notes.proofs.Whole.{noted-is, release-is, release_world}
+use Rattle.engine_notes.proofs.Whole.{noted-is, release-is}
 use Rattle.engine.proofs.ByNumber.{done-code, done-part, done-kept}
 
 -- where the first row does not apply

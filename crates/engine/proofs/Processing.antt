@@ -5,11 +5,10 @@ use mathlib.Core.List.{List}
 use Prim.Native.Nat.{ℕ}
 use lib.Dec.{eqb, ltb}
 use lib.Ieee.{Float}
-use Rattle.refusal.specs.Judge.{judged}
 use Rattle.state.specs.declared.Signals.{Signals}
 use Rattle.state.specs.declared.State.{State}
 use Rattle.model.specs.World.{World, world_of}
-use Rattle.model.specs.Process.{Processed, process_rows, over_range, process}
+use Rattle.model.specs.Process.{Processed, over_range, process}
 use Rattle.block_opening.specs.Codes.{counts_of, lengths_of, code_by}
 use Rattle.block_opening.proofs.Codes.{code-of-block}
 use Rattle.block.specs.Worlds.{answered_world}

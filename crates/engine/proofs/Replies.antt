@@ -1,15 +1,14 @@
 -- The readers of an engine say what is promised. Assumes nothing.
-use mathlib.Core.Path.{◌≡◌, refl, ap, ◌∙◌}
+use mathlib.Core.Path.{◌≡◌, refl}
 use mathlib.Core.Bool.{Bool, true, false, cond, ◌&&◌, ◌||◌}
 use mathlib.Core.List.{List, [], ◌∷◌}
 use Prim.Native.Nat.{ℕ, zero, suc}
 use lib.Dec.{eqb, ltb}
-use lib.ListN.{length}
 use lib.Ieee.{Float}
 use native.Mathlib.Omega.{arith}
 use borrow.Author.Tests.{ne_eqb}
 use Rattle.refusal.specs.Judge.{Row, ◌when◌, judged}
-use Rattle.reply.specs.Reply.{Reply, accepts, refuses, only, by_rows}
+use Rattle.reply.specs.Reply.{accepts, refuses, only, by_rows}
 use Rattle.state.specs.declared.Chunk.{Chunk}
 use Rattle.state.specs.declared.ChunkRead.{ChunkRead}
 use Rattle.state.specs.declared.ChunkRead.TheVariants as C
@@ -22,11 +21,11 @@ use Rattle.state.specs.declared.Ramped.TheVariants as M
 use Rattle.state.specs.declared.State.{State}
 use Rattle.model.specs.Counts.{frame_count}
 use Rattle.model.specs.Chunks.{chunk_total, chunk_of}
-use Rattle.model.specs.Outputs.{values_short, audio_short, width_of, is_audio_plan, is_control_plan, shape_of, reading_by}
+use Rattle.model.specs.Outputs.{values_short, audio_short, width_of, is_audio_plan, is_control_plan, reading_by}
 use Rattle.model.specs.Outputs.{audio_number, to_number}
 use Rattle.model.specs.Outputs.{has_latest, latest_number, ramp_length, ramped, RampWritten, chunk_at, output_of, audio_at}
 use Rattle.model.specs.Outputs.{control_value, latest_of, ramp_of}
-use Rattle.engine.specs.Replies.{chunk_reply, output_values, output_reply, reading_reply, ramped_reply, output_rows}
+use Rattle.engine.specs.Replies.{chunk_reply, output_values, output_reply, reading_reply, ramped_reply}
 use Rattle.engine.specs.Replies.{at_rows, value_rows, latest_rows, ramp_rows}
 use Rattle.engine.specs.Replies.{chunk_says, output_says, at_says, value_says, latest_says, ramp_says}
 

@@ -1,6 +1,6 @@
 -- What the readers of an engine say: number and values of each case (document 01, The form to use in each place). The
 -- numbers of the cases stand in `model`. Definitions only.
-use Rattle.std.specs.Prelude.{Bool, ◌&&◌, ◌||◌, List, [], ◌∷◌, ℕ, ltb, length, Float}
+use Rattle.std.specs.Prelude.{◌&&◌, ◌||◌, List, [], ◌∷◌, ℕ, ltb, length, Float}
 use Rattle.refusal.specs.Judge.{Row, ◌when◌}
 use Rattle.reply.specs.Reply.{Reply, accepts, only, by_rows}
 use Rattle.state.specs.declared.Chunk.{Chunk}

@@ -3,8 +3,6 @@
 
 ghost use Rattle.std.specs.Prelude.{◌<◌};
 
-use libc::STDIN_FILENO;
-
 // none where the session is over, else one less
 fn fewer(left: u64, code: u8, done: bool) -> u64
     requires { 0 < left }
@@ -21,6 +19,7 @@ fn fewer(left: u64, code: u8, done: bool) -> u64
 
 // Reads, answers and prints line by line, at most 2^62 of them.
 fn run(
+    rt: HostRuntime,
     input: &mut [u8],
     out: &mut [u8],
     book: &mut [usize],
@@ -32,16 +31,30 @@ fn run(
     let mut s = trace_dispatch::start();
     let empty = trace_dispatch::no_program();
     let mut shelf = [empty; 9];
+    let mut from = rt.stdin();
     let mut r = trace_input_lines::first();
     let mut left = 4611686018427387904u64;
     while 0 < left {
-        let a = trace_input_lines::ahead(STDIN_FILENO, input, r);
+        let a = trace_input_lines::ahead(&mut from, input, r);
         let line = trace_input_session::part(input, a.start, a.stop);
         let i = trace_dispatch::number_of(line, book);
         let k = trace_dispatch::place(i);
         let p = shelf[k];
-        let h = trace_dispatch::begun(s, a.number, a.all, line, book, out);
-        let next = trace_dispatch::on_line(s, p, i, h, line, out, book, desk, values, audio, pool);
+        let h = trace_dispatch::begun(s, a.number, a.all, line, book, rt.stdout(), out);
+        let next = trace_dispatch::on_line(
+            s,
+            p,
+            i,
+            h,
+            line,
+            rt.stdout(),
+            out,
+            book,
+            desk,
+            values,
+            audio,
+            pool,
+        );
         let t = next.state;
         s = t;
         let j = trace_dispatch::place(next.i);
@@ -51,11 +64,12 @@ fn run(
         r = reader;
         left = fewer(left, s.code, a.done);
     }
-    trace_dispatch::end(s, r.failed, r.number, out);
+    trace_dispatch::end(s, r.failed, r.number, rt, out);
 }
 
 // The same on arrays.
 fn run_on(
+    rt: HostRuntime,
     input: &mut [u8; 65536],
     out: &mut [u8; 65536],
     book: &mut [usize; trace_dispatch::BOOK],
@@ -64,10 +78,10 @@ fn run_on(
     audio: &mut [f32; trace_dispatch::AUDIO],
     pool: &mut [f32; trace_dispatch::POOL],
 ) {
-    run(input, out, book, desk, values, audio, pool);
+    run(rt, input, out, book, desk, values, audio, pool);
 }
 
-fn main() {
+fn main(rt: HostRuntime) {
     let mut input = [0u8; 65536];
     let mut out = [0u8; 65536];
     let mut book = [0usize; trace_dispatch::BOOK];
@@ -76,6 +90,7 @@ fn main() {
     let mut audio = [0.0f32; trace_dispatch::AUDIO];
     let mut pool = [0.0f32; trace_dispatch::POOL];
     run_on(
+        rt,
         &mut input,
         &mut out,
         &mut book,

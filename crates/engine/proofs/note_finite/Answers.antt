@@ -1,7 +1,5 @@
 -- `engine::note_finite` meets its contract.
 use mathlib.Core.Path.{sym, ◌∙◌}
-use borrow.Author.Tests.{not-true, not-false}
-use borrow.Author.Rules.{rules}
 use Rattle.engine.proofs.note_finite.Goals as goal
 
 pub returns-then-not-is_finite : goal.returns-then-not-is_finite

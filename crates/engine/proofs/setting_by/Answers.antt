@@ -1,5 +1,4 @@
 -- `engine::setting_by` meets its contract.
-use borrow.Author.Rules.{rules}
 use lib.Ieee.{of_bits}
 use Rattle.engine.proofs.setting_by.Goals as goal
 

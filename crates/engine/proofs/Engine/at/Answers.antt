@@ -1,7 +1,6 @@
 -- `Engine::at` meets its contract.
 use Rattle.engine.proofs.Replies.{at-said}
-use borrow.Author.Rules.{rules}
 use Rattle.engine.proofs.Engine.at.Goals as goal
 
 pub returns : goal.returns
-returns c = at-said _ _ _ _ _ _ c.at.ensures
+returns c = let r = at-said _ _ _ _ _ _ c.at.ensures in record { value = r.0; reply = r.1 }

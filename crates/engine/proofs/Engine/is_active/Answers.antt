@@ -1,5 +1,4 @@
 -- `Engine::is_active` meets its contract.
-use borrow.Author.Rules.{rules}
 use Rattle.engine.proofs.NotingCalls.{no-such-voice, such-a-voice}
 use Rattle.engine.proofs.Engine.is_active.Goals as goal
 

@@ -1,7 +1,6 @@
 -- `Engine::latest` meets its contract.
 use Rattle.engine.proofs.Replies.{latest-said}
-use borrow.Author.Rules.{rules}
 use Rattle.engine.proofs.Engine.latest.Goals as goal
 
 pub returns : goal.returns
-returns c = latest-said _ _ _ _ _ _ c.latest.ensures
+returns c = let r = latest-said _ _ _ _ _ _ c.latest.ensures in record { value = r.0; reply = r.1 }

@@ -1,5 +1,4 @@
 -- `Engine::note_off` meets its contract.
-use borrow.Author.Rules.{rules}
 use Rattle.engine.proofs.NotingCalls.{voice-below, inside, off-done}
 use Rattle.engine.proofs.Engine.note_off.Goals as goal
 
@@ -11,4 +10,4 @@ released-requires c =
 pub returns : goal.returns
 returns c =
     let a = c.args in
-    off-done a.self.state a.held.now a.voice a.release-velocity c.code-code.result c.no_voice.result c.is_finite.result c.held_short.result c.no_voice.ensures c.is_finite.ensures c.held_short.ensures c.code-code.ensures c.lane_of-lane.result _ c.lane_of-lane.ensures c.released.ensures
+    off-done a.self.state a.held.now a.voice a.release_velocity c.code-code.result c.no_voice.result c.is_finite.result c.held_short.result c.no_voice.ensures c.is_finite.ensures c.held_short.ensures c.code-code.ensures c.lane_of-lane.result _ c.lane_of-lane.ensures c.released.ensures

@@ -1,5 +1,4 @@
 -- `Engine::note_on` meets its contract.
-use borrow.Author.Rules.{rules}
 use Rattle.engine.specs.Noting.{note_of}
 use Rattle.engine.proofs.NotingCalls.{voice-below, inside, on-done}
 use Rattle.engine.proofs.Engine.note_on.Goals as goal

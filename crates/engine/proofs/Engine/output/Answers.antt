@@ -1,7 +1,6 @@
 -- `Engine::output` meets its contract.
 use Rattle.engine.proofs.Replies.{output-said}
-use borrow.Author.Rules.{rules}
 use Rattle.engine.proofs.Engine.output.Goals as goal
 
 pub returns : goal.returns
-returns c = output-said _ _ _ _ _ c.output.ensures
+returns c = let r = output-said _ _ _ _ _ c.output.ensures in record { value = r.0; reply = r.1 }

@@ -1,6 +1,5 @@
 -- `Engine::process` meets its contract.
 use mathlib.Core.Path.{sym, ◌∙◌}
-use borrow.Author.Rules.{rules}
 use Rattle.block.proofs.Blocks.{has_room}
 use Rattle.engine.proofs.Processing.{process-done}
 use Rattle.engine.proofs.Engine.process.Goals as goal
@@ -14,4 +13,5 @@ answered-small-requires c z =
 pub returns : goal.returns
 returns c =
     let a = c.args in
-    process-done a.self.state a.held.now a.globals.now a.bases.now a.values.now a.audio.now a.tables.now a.samples.now a.signals a.start a.end _ c.code-code.ensures _ _ _ _ _ c.answered-small.ensures
+    let r = process-done a.self.state a.held.now a.globals.now a.bases.now a.values.now a.audio.now a.tables.now a.samples.now a.signals a.start a.end _ c.code-code.ensures _ _ _ _ _ c.answered-small.ensures in
+    record { answer = r.0; lent = r.1 }

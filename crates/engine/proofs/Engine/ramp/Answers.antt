@@ -4,4 +4,4 @@ use borrow.Author.Rules.{rules}
 use Rattle.engine.proofs.Engine.ramp.Goals as goal
 
 pub returns : goal.returns
-returns c = (search rules, ramp-said _ _ _ _ _ _ c.ramp.ensures.0)
+returns c = record { value = search rules; reply = ramp-said _ _ _ _ _ _ c.ramp.ensures.0 }

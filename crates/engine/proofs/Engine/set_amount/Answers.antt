@@ -1,7 +1,6 @@
 -- `Engine::set_amount` meets its contract.
 use Rattle.model.specs.States.{with_gains}
 use Rattle.engine.proofs.SettingDone.{amount-done}
-use borrow.Author.Rules.{rules}
 use Rattle.engine.proofs.Engine.set_amount.Goals as goal
 
 pub returns : goal.returns

@@ -1,7 +1,6 @@
 -- `Engine::set_base` meets its contract.
 use Rattle.engine_settings.proofs.Accepted.{base-room}
 use Rattle.engine.proofs.SettingDone.{base_done}
-use borrow.Author.Rules.{rules}
 use Rattle.engine.proofs.Engine.set_base.Goals as goal
 
 pub put_base-requires : goal.put_base-requires

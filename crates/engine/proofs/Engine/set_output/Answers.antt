@@ -1,7 +1,6 @@
 -- `Engine::set_output` meets its contract.
 use Rattle.model.specs.States.{with_gains}
 use Rattle.engine.proofs.SettingDone.{output-done}
-use borrow.Author.Rules.{rules}
 use Rattle.engine.proofs.Engine.set_output.Goals as goal
 
 pub returns : goal.returns

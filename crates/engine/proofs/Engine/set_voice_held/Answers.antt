@@ -1,7 +1,6 @@
 -- `Engine::set_voice_held` meets its contract.
 use Rattle.engine_settings.proofs.Accepted.{voice-held-room}
 use Rattle.engine.proofs.SettingDone.{voice-done}
-use borrow.Author.Rules.{rules}
 use Rattle.engine.proofs.Engine.set_voice_held.Goals as goal
 
 pub put_lane-requires : goal.put_lane-requires

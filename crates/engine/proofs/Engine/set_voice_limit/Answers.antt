@@ -1,7 +1,6 @@
 -- `Engine::set_voice_limit` meets its contract.
 use Rattle.model.specs.States.{with_limit}
 use Rattle.engine.proofs.SettingDone.{limit-set}
-use borrow.Author.Rules.{rules}
 use Rattle.engine.proofs.Engine.set_voice_limit.Goals as goal
 
 pub returns : goal.returns

@@ -1,6 +1,5 @@
 -- `Engine::stride` meets its contract.
 use Rattle.model.specs.Outputs.{engine_stride}
-use borrow.Author.Rules.{rules}
 use Rattle.engine.proofs.Engine.stride.Goals as goal
 
 pub returns : goal.returns

@@ -1,7 +1,6 @@
 -- `Engine::swap` meets its contract.
 use Rattle.model.specs.States.{with_marks, with_gains, with_primed, with_program}
 use Rattle.engine.proofs.SettingDone.{swap-done}
-use borrow.Author.Rules.{rules}
 use Rattle.engine.proofs.Engine.swap.Goals as goal
 
 pub returns : goal.returns

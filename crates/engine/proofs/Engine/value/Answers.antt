@@ -1,7 +1,6 @@
 -- `Engine::value` meets its contract.
 use Rattle.engine.proofs.Replies.{value-said}
-use borrow.Author.Rules.{rules}
 use Rattle.engine.proofs.Engine.value.Goals as goal
 
 pub returns : goal.returns
-returns c = value-said _ _ _ _ _ _ c.value.ensures
+returns c = let r = value-said _ _ _ _ _ _ c.value.ensures in record { value = r.0; reply = r.1 }

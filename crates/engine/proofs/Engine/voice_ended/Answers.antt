@@ -1,5 +1,4 @@
 -- `Engine::voice_ended` meets its contract.
-use borrow.Author.Rules.{rules}
 use Rattle.model.specs.States.{with_voices, with_marks, with_velocity, with_key}
 use Rattle.engine.proofs.NotingCalls.{end-done}
 use Rattle.engine.proofs.Engine.voice_ended.Goals as goal
