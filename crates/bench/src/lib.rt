@@ -9,8 +9,7 @@ mod work;
 // the first refusal, or 0. Where `hash` has a place, the hash of the outputs is left there. `numbers` are those of
 // scene::Scene in order; a number that is missing is 0, and one that is too large is its limit. `curves` are the tables
 // of the matrix, for a rich scenario.
-#[unsafe(no_mangle)]
-pub extern "C" fn tinuhawe_bench(
+pub fn tinuhawe_bench(
     numbers: &[usize],
     held: &mut [f32],
     globals: &mut [f32],

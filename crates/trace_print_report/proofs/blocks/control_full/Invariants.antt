@@ -6,7 +6,7 @@ use lib.ListN.{length}
 use Rattle.trace_print_report.proofs.blocks.control_full.Given as goal
 
 abbrev pub invariant-loop-i : goal.invariant-loop-i
-invariant-loop-i l = (length l.i ≡ length l.initial.out)
+invariant-loop-i l = (length l.out ≡ length l.initial.out)
 
 abbrev pub decreases-loop-i : goal.decreases-loop-i
-decreases-loop-i l = l.chunks - i
+decreases-loop-i l = l.chunks - l.i
