@@ -6,7 +6,6 @@ use native.Mathlib.Omega.{arith}
 use lib.Dec.{ltb}
 use lib.Ieee.{Float, le}
 use borrow.Author.Tests.{ltb-false}
-use Rattle.refusal.specs.Judge.{judged}
 use Rattle.number.specs.Number.{zero32, finite}
 use Rattle.config.specs.Sizes.{most_frames, most_voices}
 use Rattle.config.specs.Configuration.{config_code}

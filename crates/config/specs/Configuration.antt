@@ -1,5 +1,5 @@
 -- Which configurations are refused (document 01, Constants, and rows 6 and 13). Definitions only.
-use Rattle.std.specs.Prelude.{◌≡◌, refl, Bool, true, false, not, ◌||◌, List, [], ◌∷◌, ℕ, ltb, pos, Float}
+use Rattle.std.specs.Prelude.{◌≡◌, refl, true, false, not, ◌||◌, List, [], ◌∷◌, ℕ, ltb, pos, Float}
 use Rattle.std.specs.Float.{nan, inf, fin}
 use Rattle.std.specs.Float.Ieee.{le}
 use Rattle.refusal.specs.Judge.{Row, ◌when◌, judged}

@@ -8,11 +8,11 @@ use native.Mathlib.Numerals.{add-one}
 use native.Mathlib.Omega.{arith}
 use lib.ListN.{length, get_or, drop}
 use lib.Seq.{drop-cons, drop-length}
-use lib.Ieee.{Float, nan, inf, fin, lt, add, sub, mul, of_int, to_unsigned}
+use lib.Ieee.{Float, nan, lt, add, sub, mul, of_int, to_unsigned}
 use borrow.Author.Tests.{not-false, eqb-true}
 use Rattle.list.proofs.Bools.{and-true-l, and_true_r}
 use Rattle.refusal.proofs.Laws.{judged-accepted}
-use Rattle.number.specs.Number.{zero32, one32, plus, times, clamp_to, finite}
+use Rattle.number.specs.Number.{zero32, one32, clamp_to, finite}
 use Rattle.number.proofs.Laws.{plus-nan, times-nan}
 use Rattle.curve_table.specs.Table.{last_cell, position, cell_at, cell_of, part_of, lookup_of, allowed, all_allowed, table_rows, table_code, from_index, tabulated, points}
 

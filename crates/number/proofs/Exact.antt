@@ -1,6 +1,6 @@
 -- Whole numbers up to 2 ^ 24 as binary32, and divided by a power of two: nothing is rounded. `HasValue x false n d` (lib.Ieee.Exact) says that the float x
 -- is finite, that its sign is plus, and that it is n / d, no more and no less. Assumes nothing.
-use Rattle.std.proofs.Common.{◌≡◌, ℕ, ◌+◌, ◌-◌, ◌*◌, ◌^◌, ◌<◌, ◌≤◌, true, false, T, ◌⊎◌, pos, sym, refl, ap, ◌∙◌, subst, inl, inr, lt_of_lt_of_le, mul_assoc, eq-or-lt_of_le, mul-pos, one-mul, mul_right_comm, arith, lit<, lit≤, pow_pos, pow_mono, pow-add, shl_lt}
+use Rattle.std.proofs.Common.{◌≡◌, ℕ, ◌+◌, ◌-◌, ◌*◌, ◌^◌, ◌<◌, ◌≤◌, true, false, T, ◌⊎◌, pos, sym, ap, ◌∙◌, subst, inl, inr, lt_of_lt_of_le, mul_assoc, eq-or-lt_of_le, mul-pos, one-mul, mul_right_comm, arith, lit<, pow_pos, pow_mono, pow-add, shl_lt}
 use lib.Pow.{pow-lt}
 use lib.Ieee.{Float, nan, inf, fin, binary32, div, of_int, up, down, round}
 use lib.Ieee.Exact.{HasValue, round_exact}

@@ -1,12 +1,11 @@
 -- What a reply by rows says: its number is what the rows say. Assumes nothing.
 use mathlib.Core.Path.{◌≡◌, refl, sym}
 use mathlib.Core.Logic.{◌≢◌}
-use mathlib.Core.List.{List, []}
-use Prim.Native.Nat.{ℕ}
+use mathlib.Core.List.{List}
 use native.Mathlib.Decide.{ℕ_discrete}
 use borrow.Author.Tests.{eq-eqb, ne_eqb}
 use Rattle.refusal.specs.Judge.{Row, judged}
-use Rattle.reply.specs.Reply.{Reply, accepts, refuses, by_rows}
+use Rattle.reply.specs.Reply.{accepts, refuses, by_rows}
 
 module _ {A : Type 0} (rows : List Row) (vs : List A) where
   pub by-accepted : judged rows ≡ 0 → by_rows rows vs ≡ accepts vs

@@ -1,7 +1,7 @@
 -- Laws of slews that proofs cite in place of the definitions' text.
 use mathlib.Core.Path.{◌≡◌, refl}
-use lib.Ieee.{Float, nan, inf, fin, add, sub, mul, eq}
-use Rattle.number.specs.Number.{zero32, plus}
+use lib.Ieee.{Float, nan, add, sub, mul, eq}
+use Rattle.number.specs.Number.{zero32}
 use Rattle.number.proofs.Laws.{plus-nan}
 use Rattle.slew.specs.Slew.{reach, moved, slew_step}
 

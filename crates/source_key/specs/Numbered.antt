@@ -1,6 +1,6 @@
 -- Keys with a number in them: Rust's `format!("lfo{n}_y")` (source.rs 233-310), and which keys are such ones.
 -- Definitions only.
-use Rattle.std.specs.Prelude.{Bool, true, false, cond, ◌&&◌, List, [], ◌∷◌, ◌++◌, ℕ, ◌+◌, ◌-◌, ◌*◌, leb, length, take, drop}
+use Rattle.std.specs.Prelude.{Bool, false, cond, ◌&&◌, List, [], ◌∷◌, ◌++◌, ℕ, ◌+◌, ◌-◌, ◌*◌, leb, length, take, drop}
 use Rattle.source_key.specs.Text.{decimal}
 use Rattle.source_key.specs.Bytes.{same_bytes}
 

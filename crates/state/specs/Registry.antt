@@ -1,6 +1,6 @@
 -- The entries that stand in the two registries (source.rs 183-200, 326-356; dest.rs 212-217, 276-299; document 01,
 -- Source entry, Destination entry). A count above the most counts as the most. Definitions only.
-use Rattle.std.specs.Prelude.{Bool, true, false, cond, ◌&&◌, List, [], ◌∷◌, ℕ, zero, suc, min, eqb, ltb, get_or, take, replicate}
+use Rattle.std.specs.Prelude.{Bool, false, cond, ◌&&◌, List, [], ◌∷◌, ℕ, suc, min, eqb, ltb, get_or, take, replicate}
 use Rattle.std.specs.Float.{nan}
 use Rattle.config.specs.Sizes.{most_sources, most_destinations}
 use Rattle.state.specs.declared.Kind.TheVariants as K

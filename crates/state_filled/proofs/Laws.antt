@@ -1,9 +1,9 @@
 -- Lists of at most as many things as there are slots: an array holds the list that it was filled with, and one more is put behind it. Assumes nothing.
-use mathlib.Core.Path.{◌≡◌, refl, sym, ap, ◌∙◌}
+use mathlib.Core.Path.{◌≡◌, sym, ap, ◌∙◌}
 use mathlib.Core.List.{List, [], ◌∷◌, ◌++◌}
 use Prim.Native.Nat.{ℕ, ◌+◌, ◌<◌}
 use borrow.Author.Tests.{lt-ltb}
-use lib.ListN.{length, take, length-append}
+use lib.ListN.{length, length-append}
 use Rattle.config.specs.Sizes.{slots}
 use Rattle.list.specs.Padded.{padded}
 use Rattle.list.proofs.Padded.{padded-push, padded-take}

@@ -1,18 +1,17 @@
 -- After any calls: ranks go by the note-ons alone, and the newest is the active voice with the highest of the Rust's numbers. Assumes nothing.
 use mathlib.Core.Path.{◌≡◌, refl, sym, ap, ◌∙◌}
-use mathlib.Core.Logic.{◌≢◌, ◌⊎◌, inl, inr}
+use mathlib.Core.Logic.{◌≢◌, inl, inr}
 use mathlib.Core.Bool.{Bool, true, false}
 use mathlib.Core.List.{List, [], ◌∷◌}
 use Prim.Native.Nat.{ℕ, ◌≤◌, ◌<◌}
 use native.Mathlib.Decide.{ℕ_discrete, dec_lt}
 use native.Mathlib.Omega.{arith}
-use lib.ListN.{length, get_or, set, get_or-replicate}
+use lib.ListN.{get_or, set, get_or-replicate}
 use lib.Seq.{get_or-set_same, get_or-set_other}
 use borrow.Author.Tests.{lt-ltb, le-ltb}
 use Rattle.config.specs.Sizes.{most_voices}
 use Rattle.voice.specs.declared.Newest.{Newest}
-use Rattle.voice.specs.declared.Newest.TheVariants.{Nobody, Voice}
-use Rattle.voice.specs.declared.Voices.{Voices}
+use Rattle.voice.specs.declared.Newest.TheVariants.{Voice}
 use Rattle.voice.specs.Voices.{rank_of, no_voices, ranks_on, sounded_on, released_of, ended_of}
 use Rattle.voice.specs.Sounded.{stamp, ranks_after, Later, Latest, none, one, Note, on, off, ended, voices_after, note_ons}
 use Rattle.voice.proofs.Ranks.{ranks-after, lower-later, stamp-same, stamp-other, stamp-apart}

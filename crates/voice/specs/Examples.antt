@@ -3,7 +3,6 @@ use Rattle.std.specs.Prelude.{◌≡◌, refl, true, false, [], ◌∷◌, pos, 
 use Rattle.std.specs.Float.{nan, inf, fin}
 use Rattle.std.specs.Float.Ieee.{lt, le, eq, ne, add, sub, mul, div, of_int}
 use Rattle.number.specs.Number.{zero32, half32, one32, two32, abs_of}
-use Rattle.voice.specs.declared.Glide.{Glide}
 use Rattle.voice.specs.declared.Legato.TheVariants as L
 use Rattle.voice.specs.declared.Newest.TheVariants.{Nobody, Voice}
 use Rattle.voice.specs.declared.Voices.{Voices}

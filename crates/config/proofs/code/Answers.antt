@@ -1,11 +1,7 @@
 -- `config::code` meets its contract.
-use mathlib.Core.Path.{◌≡◌, sym, ◌∙◌}
-use mathlib.Core.Bool.{Bool, true, false, not}
-use lib.Ieee.{of_bits, le}
-use borrow.Author.Rules.{rules}
-use borrow.Author.Tests.{lt-ltb, le-ltb, not-true, not-false}
-use Rattle.refusal.specs.Judge.{judged}
-use Rattle.number.specs.Number.{finite}
+use mathlib.Core.Path.{sym, ◌∙◌}
+use lib.Ieee.{of_bits}
+use borrow.Author.Tests.{lt-ltb, le-ltb}
 use Rattle.config.specs.Configuration.{config_code}
 use Rattle.config.proofs.code.Goals as goal
 

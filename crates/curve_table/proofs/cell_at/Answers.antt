@@ -1,6 +1,5 @@
 -- `curve_table::cell_at` meets its contract.
 use native.Mathlib.Omega.{arith}
-use borrow.Author.Rules.{rules}
 use Rattle.curve_table.proofs.cell_at.Goals as goal
 
 pub returns-then-whole-lt-LAST_CELL : goal.returns-then-whole-lt-LAST_CELL

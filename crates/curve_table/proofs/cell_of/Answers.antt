@@ -1,6 +1,5 @@
 -- `curve_table::cell_of` meets its contract.
 use mathlib.Core.Path.{ap, ◌∙◌}
-use borrow.Author.Rules.{rules}
 use Rattle.curve_table.specs.Table.{cell_at, cell_of}
 use Rattle.curve_table.proofs.cell_of.Goals as goal
 

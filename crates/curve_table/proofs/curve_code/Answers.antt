@@ -1,6 +1,5 @@
 -- `curve_table::curve_code` meets its contract.
 use mathlib.Core.Path.{sym, ◌∙◌}
-use borrow.Author.Rules.{rules}
 use Rattle.refusal.specs.Judge.{judged}
 use Rattle.curve_table.specs.Curve.{curve_code}
 use Rattle.curve_table.proofs.curve_code.Goals as goal

@@ -1,10 +1,6 @@
-use mathlib.Core.Path.{◌≡◌, sym, ◌∙◌}
-use Prim.Native.Nat.{◌-◌, ◌≤◌}
+use mathlib.Core.Path.{sym, ◌∙◌}
 use native.Mathlib.Omega.{arith}
 use borrow.Author.Rules.{rules}
-use borrow.Author.Tests.{not-true, not-false}
-use lib.ListN.{length, drop}
-use Rattle.curve_table.specs.Table.{all_allowed}
 use Rattle.curve_table.proofs.Laws.{allowed-from, allowed-past}
 use Rattle.curve_table.proofs.numbers_allowed.Goals as goal
 

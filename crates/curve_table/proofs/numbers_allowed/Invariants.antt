@@ -1,12 +1,8 @@
 -- `curve_table::numbers_allowed` meets its contract.
-use mathlib.Core.Path.{◌≡◌, sym, ◌∙◌}
+use mathlib.Core.Path.{◌≡◌}
 use Prim.Native.Nat.{◌-◌, ◌≤◌}
-use native.Mathlib.Omega.{arith}
-use borrow.Author.Rules.{rules}
-use borrow.Author.Tests.{not-true, not-false}
 use lib.ListN.{length, drop}
 use Rattle.curve_table.specs.Table.{all_allowed}
-use Rattle.curve_table.proofs.Laws.{allowed-from, allowed-past}
 use Rattle.curve_table.proofs.numbers_allowed.Given as goal
 
 abbrev pub invariant-loop-i : goal.invariant-loop-i

@@ -1,5 +1,4 @@
 -- `curve_table::position` meets its contract.
-use borrow.Author.Rules.{rules}
 use lib.Ieee.{of_bits}
 use Rattle.curve_table.specs.Table.{position}
 use Rattle.curve_table.proofs.position.Goals as goal

@@ -1,6 +1,5 @@
 -- `curve_table::seconds_of` meets its contract.
 use mathlib.Core.Path.{sym, ap}
-use borrow.Author.Rules.{rules}
 use lib.Ieee.{of_bits}
 use Rattle.curve_table.specs.Curve.{seconds_of}
 use Rattle.curve_table.proofs.seconds_of.Goals as goal

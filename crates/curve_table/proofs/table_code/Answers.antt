@@ -1,7 +1,6 @@
 -- `curve_table::table_code` meets its contract.
 use mathlib.Core.Path.{sym, ◌∙◌}
-use borrow.Author.Rules.{rules}
-use borrow.Author.Tests.{not-true, not-false, eq-eqb, ne_eqb}
+use borrow.Author.Tests.{eq-eqb, ne_eqb}
 use Rattle.refusal.specs.Judge.{judged}
 use Rattle.curve_table.specs.Table.{table_code}
 use Rattle.curve_table.proofs.table_code.Goals as goal

@@ -1,5 +1,5 @@
 -- `draw::bits` meets its contract. Assumes nothing.
-use Rattle.std.proofs.Common.{arith, rules}
+use Rattle.std.proofs.Common.{arith}
 use Rattle.draw.specs.Xorshift.{draw_bits, scrambled}
 use Rattle.draw.proofs.bits.Goals as goal
 

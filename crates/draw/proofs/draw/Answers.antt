@@ -1,5 +1,5 @@
 -- `draw::draw` meets its contract. The 24 bits fit a binary32, so the cast is allowed, and the divisor is 2^24. Assumes nothing.
-use Rattle.std.proofs.Common.{arith, le→leb, rules}
+use Rattle.std.proofs.Common.{arith, le→leb}
 use lib.Ieee.{of_bits, in_float}
 use Rattle.draw.specs.Xorshift.{draw_of}
 use Rattle.draw.proofs.State.{draw_bits-below}

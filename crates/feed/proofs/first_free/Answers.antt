@@ -1,14 +1,10 @@
-use mathlib.Core.Path.{◌≡◌, sym, ap, ◌∙◌}
-use mathlib.Core.Logic.{inl, inr}
-use mathlib.Core.Bool.{Bool, not}
+use mathlib.Core.Path.{sym, ap, ◌∙◌}
+use mathlib.Core.Bool.{not}
 use mathlib.Core.List.{List}
-use Prim.Native.Nat.{ℕ, ◌≤◌, ◌<◌, ◌-◌}
+use Prim.Native.Nat.{ℕ, ◌<◌}
 use native.Mathlib.Omega.{arith}
 use native.Mathlib.Nat.{sub-zero}
-use borrow.Author.Tests.{not-true, not-false}
 use Rattle.feed.specs.Numbers.{keep, first_or}
-use Rattle.feed.specs.Order.{fed_by, free}
-use Rattle.feed.specs.Marks.{marked, unplaced}
 use Rattle.feed.proofs.Unplaced.{unplaced-end, first_taken, first-not, first-here}
 use Rattle.feed.proofs.first_free.Goals as goal
 use Rattle.feed.proofs.first_free.Invariants.{is_free}

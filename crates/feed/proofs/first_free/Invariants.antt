@@ -1,16 +1,11 @@
 -- `feed::first_free` meets its contract. The invariant: the first free one of the unplaced from b on is the first of all. Assumes nothing.
-use mathlib.Core.Path.{◌≡◌, sym, ap, ◌∙◌}
-use mathlib.Core.Logic.{inl, inr}
+use mathlib.Core.Path.{◌≡◌}
 use mathlib.Core.Bool.{Bool, not}
 use mathlib.Core.List.{List}
-use Prim.Native.Nat.{ℕ, ◌≤◌, ◌<◌, ◌-◌}
-use native.Mathlib.Omega.{arith}
-use native.Mathlib.Nat.{sub-zero}
-use borrow.Author.Tests.{not-true, not-false}
+use Prim.Native.Nat.{ℕ, ◌≤◌, ◌-◌}
 use Rattle.feed.specs.Numbers.{keep, first_or}
 use Rattle.feed.specs.Order.{fed_by, free}
 use Rattle.feed.specs.Marks.{marked, unplaced}
-use Rattle.feed.proofs.Unplaced.{unplaced-end, first_taken, first-not, first-here}
 use Rattle.feed.proofs.first_free.Given as goal
 
 -- no other unplaced one feeds b

@@ -1,10 +1,7 @@
-use mathlib.Core.Path.{◌≡◌, sym, ap, ◌∙◌}
-use Prim.Native.Nat.{◌≤◌, ◌-◌}
+use mathlib.Core.Path.{sym, ap, ◌∙◌}
 use native.Mathlib.Omega.{arith}
 use native.Mathlib.Nat.{sub-zero}
-use borrow.Author.Tests.{not-true, not-false}
 use Rattle.feed.specs.Numbers.{first_or}
-use Rattle.feed.specs.Marks.{unplaced}
 use Rattle.feed.proofs.Unplaced.{unplaced-taken, unplaced-left, unplaced-end}
 use Rattle.feed.proofs.first_unplaced.Goals as goal
 

@@ -1,12 +1,8 @@
 -- `feed::first_unplaced` meets its contract. The invariant: the first unplaced from i on is the first of all. Assumes nothing.
-use mathlib.Core.Path.{◌≡◌, sym, ap, ◌∙◌}
+use mathlib.Core.Path.{◌≡◌}
 use Prim.Native.Nat.{◌≤◌, ◌-◌}
-use native.Mathlib.Omega.{arith}
-use native.Mathlib.Nat.{sub-zero}
-use borrow.Author.Tests.{not-true, not-false}
 use Rattle.feed.specs.Numbers.{first_or}
 use Rattle.feed.specs.Marks.{unplaced}
-use Rattle.feed.proofs.Unplaced.{unplaced-taken, unplaced-left, unplaced-end}
 use Rattle.feed.proofs.first_unplaced.Given as goal
 
 abbrev pub invariant-loop-i : goal.invariant-loop-i

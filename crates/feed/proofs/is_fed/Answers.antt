@@ -1,12 +1,10 @@
-use mathlib.Core.Path.{◌≡◌, sym, ap, ◌∙◌}
-use mathlib.Core.Logic.{inl, inr}
+use mathlib.Core.Path.{sym, ap, ◌∙◌}
 use mathlib.Core.List.{List}
-use Prim.Native.Nat.{ℕ, ◌≤◌, ◌<◌, ◌-◌}
+use Prim.Native.Nat.{ℕ, ◌<◌}
 use native.Mathlib.Omega.{arith}
 use native.Mathlib.Nat.{sub-zero}
-use borrow.Author.Tests.{not-true, not-false}
 use Rattle.feed.specs.Order.{fed_by}
-use Rattle.feed.specs.Marks.{marked, unplaced}
+use Rattle.feed.specs.Marks.{marked}
 use Rattle.feed.proofs.Unplaced.{unplaced-end, fed-taken, fed-not, fed-self, fed-here}
 use Rattle.feed.proofs.is_fed.Goals as goal
 

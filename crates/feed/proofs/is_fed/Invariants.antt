@@ -1,14 +1,8 @@
 -- `feed::is_fed` meets its contract. The invariant: the unplaced from a on give the same answer as all of them. Assumes nothing.
-use mathlib.Core.Path.{◌≡◌, sym, ap, ◌∙◌}
-use mathlib.Core.Logic.{inl, inr}
-use mathlib.Core.List.{List}
-use Prim.Native.Nat.{ℕ, ◌≤◌, ◌<◌, ◌-◌}
-use native.Mathlib.Omega.{arith}
-use native.Mathlib.Nat.{sub-zero}
-use borrow.Author.Tests.{not-true, not-false}
+use mathlib.Core.Path.{◌≡◌}
+use Prim.Native.Nat.{◌≤◌, ◌-◌}
 use Rattle.feed.specs.Order.{fed_by}
 use Rattle.feed.specs.Marks.{marked, unplaced}
-use Rattle.feed.proofs.Unplaced.{unplaced-end, fed-taken, fed-not, fed-self, fed-here}
 use Rattle.feed.proofs.is_fed.Given as goal
 
 abbrev pub invariant-loop-a : goal.invariant-loop-a

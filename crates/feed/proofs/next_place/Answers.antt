@@ -1,6 +1,5 @@
 -- `feed::next_place` meets its contract. Assumes nothing.
 use mathlib.Core.Path.{◌∙◌}
-use borrow.Author.Rules.{rules}
 use native.Mathlib.Omega.{arith}
 use Rattle.feed.specs.Marks.{marked}
 use Rattle.feed.proofs.Turn.{next-free-one, next-lowest}

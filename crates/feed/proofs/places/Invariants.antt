@@ -1,17 +1,12 @@
 -- `feed::places` meets its contract. The invariant: what is placed, then the greedy order of the unplaced, is the whole order. Assumes nothing.
-use mathlib.Core.Path.{◌≡◌, refl, sym, ap, ◌∙◌}
-use mathlib.Core.Bool.{true}
+use mathlib.Core.Path.{◌≡◌}
 use mathlib.Core.List.{◌++◌}
 use Prim.Native.Nat.{◌≤◌, ◌-◌}
-use native.Mathlib.Omega.{arith}
-use native.Mathlib.Nat.{sub-zero}
-use lib.ListN.{length, take, drop, replicate, length-set, take-append-drop}
+use lib.ListN.{length, take, drop, replicate}
 use Rattle.config.specs.Sizes.{slots}
 use Rattle.feed.specs.Numbers.{up_from}
 use Rattle.feed.specs.Order.{greedy, order}
-use Rattle.feed.specs.Marks.{marked, unplaced, places_of}
-use Rattle.feed.proofs.Count.{length-up_from}
-use Rattle.feed.proofs.Turn.{unplaced-start, place-below, turn-length, turn, start, finish, zeros-turn}
+use Rattle.feed.specs.Marks.{marked, unplaced}
 use Rattle.feed.proofs.places.Given as goal
 
 abbrev pub invariant-loop-k : goal.invariant-loop-k

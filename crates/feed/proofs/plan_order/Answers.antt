@@ -1,5 +1,4 @@
 -- `feed::plan_order` meets its contract. Assumes nothing.
-use borrow.Author.Rules.{rules}
 use Rattle.feed.specs.Marks.{plan_order}
 use Rattle.feed.proofs.plan_order.Goals as goal
 

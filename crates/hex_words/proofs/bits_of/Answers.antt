@@ -1,5 +1,4 @@
 -- `hex_words::bits_of` meets its contract.
-use borrow.Author.Rules.{rules}
 use Rattle.hex_words.proofs.Patterns.{pattern-of-nan, no_nan}
 use Rattle.hex_words.proofs.bits_of.Goals as goal
 

@@ -1,7 +1,6 @@
 -- `hex_words::byte` meets its contract.
 use mathlib.Core.Path.{sym}
 use lib.ListN.{get_or-eq_default}
-use borrow.Author.Rules.{rules}
 use Rattle.hex_words.proofs.byte.Goals as goal
 
 pub returns-else-at-s : goal.returns-else-at-s

@@ -1,8 +1,5 @@
 -- `hex_words::digit` meets its contract.
-use mathlib.Core.Path.{◌≡◌}
-use Prim.Native.Nat.{ℕ}
 use native.Mathlib.Omega.{arith}
-use borrow.Author.Rules.{rules}
 use borrow.Author.Tests.{lt-ltb, le-ltb}
 use Rattle.hex_words.specs.Hex.{digit_of}
 use Rattle.hex_words.proofs.digit.Goals as goal

@@ -1,6 +1,5 @@
 -- `hex_words::of_bits` meets its contract.
 use mathlib.Core.Path.{◌∙◌}
-use borrow.Author.Rules.{rules}
 use Rattle.hex_words.proofs.Patterns.{zero-over-zero, nan-above, number-below}
 use Rattle.hex_words.proofs.of_bits.Goals as goal
 

@@ -1,9 +1,7 @@
 use mathlib.Core.Path.{refl, ◌∙◌}
-use Prim.Native.Nat.{◌≤◌, ◌-◌}
 use native.Mathlib.Omega.{arith}
-use lib.ListN.{length, get_or}
 use lib.Ieee.{nan}
-use Rattle.list.proofs.Filled.{Filled, filled_none, filled_more, filled-all, fill-copy}
+use Rattle.list.proofs.Filled.{filled_none, filled_more, filled-all, fill-copy}
 use borrow.Author.Rules.{rules}
 use Rattle.list.proofs.copy.Goals as goal
 

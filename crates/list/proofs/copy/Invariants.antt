@@ -1,11 +1,8 @@
 -- `list::copy` meets its contract. The loop's invariant: the elements below i are those of xs. Assumes nothing.
-use mathlib.Core.Path.{refl, ◌∙◌}
 use Prim.Native.Nat.{◌≤◌, ◌-◌}
-use native.Mathlib.Omega.{arith}
 use lib.ListN.{length, get_or}
 use lib.Ieee.{nan}
-use Rattle.list.proofs.Filled.{Filled, filled_none, filled_more, filled-all, fill-copy}
-use borrow.Author.Rules.{rules}
+use Rattle.list.proofs.Filled.{Filled}
 use Rattle.list.proofs.copy.Given as goal
 
 abbrev pub invariant-loop-i : goal.invariant-loop-i

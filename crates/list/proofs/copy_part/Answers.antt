@@ -1,7 +1,6 @@
 -- `list::copy_part` meets its contract: the part is what `copy` leaves of it. Assumes nothing.
 use mathlib.Core.Path.{ap}
 use Rattle.list.specs.Part.{on_part}
-use borrow.Author.Rules.{rules}
 use Rattle.list.proofs.copy_part.Goals as goal
 
 pub returns : goal.returns

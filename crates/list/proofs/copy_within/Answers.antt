@@ -1,13 +1,13 @@
 use mathlib.Core.Path.{◌≡◌, ◌∙◌, sym}
 use mathlib.Core.Logic.{inl, inr, ⊎_elim}
-use Prim.Native.Nat.{◌+◌, ◌≤◌, ◌-◌}
+use Prim.Native.Nat.{◌+◌, ◌-◌}
 use native.Mathlib.Omega.{arith}
-use lib.ListN.{length, get_or}
+use lib.ListN.{length}
 use lib.Ieee.{nan}
 use Rattle.list.specs.Part.{part}
 use Rattle.list.proofs.Elements.{get_or-inside}
 use Rattle.list.proofs.Parts.{part_length, part_at}
-use Rattle.list.proofs.FilledPart.{FilledPart, filled-part-none, filled-part-outside, filled-part-more, filled-part-is}
+use Rattle.list.proofs.FilledPart.{filled-part-none, filled-part-outside, filled-part-more, filled-part-is}
 use borrow.Author.Rules.{rules}
 use Rattle.list.proofs.copy_within.Goals as goal
 

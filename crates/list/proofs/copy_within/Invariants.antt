@@ -1,15 +1,8 @@
 -- `list::copy_within` meets its contract. The loop's invariant: the first i numbers at `to` are those that stood at `from`. Assumes nothing.
-use mathlib.Core.Path.{◌≡◌, ◌∙◌, sym}
-use mathlib.Core.Logic.{inl, inr, ⊎_elim}
 use Prim.Native.Nat.{◌+◌, ◌≤◌, ◌-◌}
-use native.Mathlib.Omega.{arith}
-use lib.ListN.{length, get_or}
+use lib.ListN.{get_or}
 use lib.Ieee.{nan}
-use Rattle.list.specs.Part.{part}
-use Rattle.list.proofs.Elements.{get_or-inside}
-use Rattle.list.proofs.Parts.{part_length, part_at}
-use Rattle.list.proofs.FilledPart.{FilledPart, filled-part-none, filled-part-outside, filled-part-more, filled-part-is}
-use borrow.Author.Rules.{rules}
+use Rattle.list.proofs.FilledPart.{FilledPart}
 use Rattle.list.proofs.copy_within.Given as goal
 
 abbrev pub invariant-loop-i : goal.invariant-loop-i

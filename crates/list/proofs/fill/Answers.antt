@@ -1,8 +1,6 @@
 use mathlib.Core.Path.{refl, ◌∙◌}
-use Prim.Native.Nat.{◌≤◌, ◌-◌}
 use native.Mathlib.Omega.{arith}
-use lib.ListN.{length}
-use Rattle.list.proofs.Filled.{Filled, filled_none, filled_more, filled-all, fill-replicate}
+use Rattle.list.proofs.Filled.{filled_none, filled_more, filled-all, fill-replicate}
 use borrow.Author.Rules.{rules}
 use Rattle.list.proofs.fill.Goals as goal
 

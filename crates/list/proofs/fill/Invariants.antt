@@ -1,10 +1,7 @@
 -- `list::fill` meets its contract. The loop's invariant: the elements below i are x. Assumes nothing.
-use mathlib.Core.Path.{refl, ◌∙◌}
 use Prim.Native.Nat.{◌≤◌, ◌-◌}
-use native.Mathlib.Omega.{arith}
 use lib.ListN.{length}
-use Rattle.list.proofs.Filled.{Filled, filled_none, filled_more, filled-all, fill-replicate}
-use borrow.Author.Rules.{rules}
+use Rattle.list.proofs.Filled.{Filled}
 use Rattle.list.proofs.fill.Given as goal
 
 abbrev pub invariant-loop-i : goal.invariant-loop-i

@@ -3,7 +3,6 @@ use mathlib.Core.Path.{sym}
 use lib.ListN.{get_or-eq_default}
 use lib.Ieee.{nan}
 use Rattle.list.proofs.Elements.{get_or-inside}
-use borrow.Author.Rules.{rules}
 use Rattle.list.proofs.read.Goals as goal
 
 pub returns-then-i-xs : goal.returns-then-i-xs

@@ -1,5 +1,5 @@
 -- `number::abs` meets its contract.
-use Rattle.std.proofs.Common.{◌≡◌, ℕ, zero, suc, ◌+◌, ◌*◌, Bool, true, false, T, ℤ, pos, sym, refl, ap, ◌∙◌, arith, ltb-false, ltb-true}
+use Rattle.std.proofs.Common.{◌≡◌, ◌+◌, ◌*◌, true, false, T, sym, refl, ap, arith, ltb-false, ltb-true}
 use lib.Ieee.{Float, nan, inf, fin, binary32, lt, eq, neg, fits, of_bits, up, down}
 use Rattle.number.specs.Number.{zero32, abs_of}
 use Rattle.number.proofs.Laws.{no, yes-T, zero-plain, zero-of-eq}

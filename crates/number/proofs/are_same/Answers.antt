@@ -1,6 +1,6 @@
 -- `number::are_same` meets its contract.
-use Rattle.std.proofs.Common.{◌≡◌, Bool, true, false, sym, refl, ap, ◌∙◌}
-use lib.Ieee.{Float, nan, inf, fin, eq, ne, is_nan}
+use Rattle.std.proofs.Common.{◌≡◌, true, false, sym, refl, ◌∙◌}
+use lib.Ieee.{Float, nan, inf, fin, eq, is_nan}
 use Rattle.number.specs.Number.{same}
 use Rattle.number.proofs.Laws.{no, differs}
 use Rattle.number.proofs.are_same.Goals as goal

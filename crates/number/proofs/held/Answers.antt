@@ -1,5 +1,4 @@
 -- `number::held` meets its contract.
-use Rattle.std.proofs.Common.{rules}
 use Rattle.number.specs.Number.{hold}
 use Rattle.number.proofs.held.Goals as goal
 

@@ -1,5 +1,5 @@
 -- `number::is_finite` meets its contract.
-use Rattle.std.proofs.Common.{◌≡◌, Bool, true, false, sym, refl}
+use Rattle.std.proofs.Common.{◌≡◌, true, false, sym, refl}
 use lib.Ieee.{Float, nan, inf, fin, lt, neg, div, of_bits}
 use Rattle.number.specs.Number.{finite}
 use Rattle.number.proofs.is_finite.Goals as goal

@@ -1,6 +1,5 @@
 -- `number::max` meets its contract.
-use Rattle.std.proofs.Common.{◌≡◌, sym, ◌∙◌}
-use lib.Ieee.{is_nan}
+use Rattle.std.proofs.Common.{sym, ◌∙◌}
 use Rattle.number.specs.Number.{max32}
 use Rattle.number.proofs.Laws.{differs}
 use Rattle.number.proofs.max.Goals as goal

@@ -1,6 +1,5 @@
 -- `number::min` meets its contract.
-use Rattle.std.proofs.Common.{◌≡◌, sym, ◌∙◌}
-use lib.Ieee.{is_nan}
+use Rattle.std.proofs.Common.{sym, ◌∙◌}
 use Rattle.number.specs.Number.{min32}
 use Rattle.number.proofs.Laws.{differs}
 use Rattle.number.proofs.min.Goals as goal

@@ -1,5 +1,5 @@
 -- `number::nearest_u64_to_f32` meets its contract.
-use Rattle.std.proofs.Common.{arith, rules}
+use Rattle.std.proofs.Common.{arith}
 use lib.Ieee.{of_bits}
 use Rattle.number.proofs.Nearest.{upper_in, lower_in, two-parts, two-parts-sticky, sticky-small}
 use Rattle.number.proofs.nearest_u64_to_f32.Goals as goal

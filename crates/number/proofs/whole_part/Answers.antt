@@ -1,5 +1,5 @@
 -- `number::whole_part` meets its contract.
-use Rattle.std.proofs.Common.{◌≡◌, ℕ, ◌+◌, ◌*◌, ◌/◌, ◌^◌, ◌<◌, ◌≤◌, min, Bool, true, false, T, pos, sym, refl, le-div_iff_mul-le, arith, lt→ltb, ltb-false}
+use Rattle.std.proofs.Common.{◌≡◌, ◌+◌, ◌*◌, ◌≤◌, true, false, T, pos, sym, refl, le-div_iff_mul-le, arith, lt→ltb, ltb-false}
 use native.Mathlib.Nat.{zero-div}
 use lib.Ieee.{Float, nan, inf, fin, lt, to_unsigned, of_bits, up, down}
 use lib.Ieee.Fits.{down_pos}

@@ -1,5 +1,5 @@
 -- `number::with_sticky_digit` meets its contract.
-use Rattle.std.proofs.Common.{arith, rules, ne_eqb}
+use Rattle.std.proofs.Common.{arith, ne_eqb}
 use Rattle.number.specs.Number.{sticky}
 use Rattle.number.proofs.with_sticky_digit.Goals as goal
 

@@ -1,5 +1,4 @@
 -- `slew::step` meets its contract.
-use borrow.Author.Rules.{rules}
 use Rattle.slew.specs.Slew.{moved, slew_step}
 use Rattle.slew.proofs.step.Goals as goal
 

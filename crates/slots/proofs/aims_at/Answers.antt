@@ -1,6 +1,5 @@
 -- `slots::aims_at` meets its contract.
 use mathlib.Core.Path.{sym, ap, ◌∙◌}
-use borrow.Author.Rules.{rules}
 use Rattle.slots.specs.Slots.{aims_at}
 use Rattle.slots.proofs.aims_at.Goals as goal
 

@@ -1,14 +1,9 @@
 -- `slots::all_finite` meets its contract. The loop's invariant: the numbers of the slots passed are finite.
-use mathlib.Core.Path.{◌≡◌, refl, sym, ◌∙◌}
+use mathlib.Core.Path.{◌≡◌}
 use Prim.Native.Nat.{◌-◌, ◌≤◌}
-use native.Mathlib.Omega.{arith}
-use borrow.Author.Rules.{rules}
-use borrow.Author.Tests.{not-true, not-false}
 use lib.ListN.{length, drop}
 use Rattle.config.specs.Sizes.{slots}
 use Rattle.slots.specs.Slots.{all_finite}
-use Rattle.list.proofs.Bools.{and-false, and-true}
-use Rattle.slots.proofs.Laws.{finite-from, finite-past}
 use Rattle.slots.proofs.all_finite.Given as goal
 
 abbrev pub invariant-loop-i : goal.invariant-loop-i

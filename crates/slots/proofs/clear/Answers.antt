@@ -1,6 +1,5 @@
 -- `slots::clear` meets its contract.
 use mathlib.Core.Path.{sym, ◌∙◌}
-use borrow.Author.Rules.{rules}
 use Rattle.slots.proofs.Laws.{cleared-aimed, cleared-other}
 use Rattle.slots.proofs.clear.Goals as goal
 

@@ -1,11 +1,10 @@
-use mathlib.Core.Path.{◌≡◌, ap, ◌∙◌}
-use Prim.Native.Nat.{◌-◌, ◌≤◌, ◌<◌}
+use mathlib.Core.Path.{ap, ◌∙◌}
+use Prim.Native.Nat.{◌<◌}
 use native.Mathlib.Omega.{arith}
 use borrow.Author.Rules.{rules}
-use lib.ListN.{length, get_or}
-use Rattle.list.proofs.Filled.{Filled, filled_none, filled_more, filled-all}
+use lib.ListN.{length}
+use Rattle.list.proofs.Filled.{filled_none, filled_more, filled-all}
 use Rattle.list.proofs.Elements.{get_or-inside}
-use Rattle.config.specs.Sizes.{slots}
 use Rattle.slots.specs.Slots.{empty_slot, cleared}
 use Rattle.slots.proofs.Laws.{map-fill}
 use Rattle.slots.proofs.clear_all.Goals as goal

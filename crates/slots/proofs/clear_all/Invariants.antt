@@ -1,14 +1,10 @@
 -- `slots::clear_all` meets its contract. The loop's invariant: the slots passed are cleared.
-use mathlib.Core.Path.{◌≡◌, ap, ◌∙◌}
-use Prim.Native.Nat.{◌-◌, ◌≤◌, ◌<◌}
-use native.Mathlib.Omega.{arith}
-use borrow.Author.Rules.{rules}
+use mathlib.Core.Path.{◌≡◌}
+use Prim.Native.Nat.{◌-◌, ◌≤◌}
 use lib.ListN.{length, get_or}
-use Rattle.list.proofs.Filled.{Filled, filled_none, filled_more, filled-all}
-use Rattle.list.proofs.Elements.{get_or-inside}
+use Rattle.list.proofs.Filled.{Filled}
 use Rattle.config.specs.Sizes.{slots}
 use Rattle.slots.specs.Slots.{empty_slot, cleared}
-use Rattle.slots.proofs.Laws.{map-fill}
 use Rattle.slots.proofs.clear_all.Given as goal
 
 abbrev pub invariant-loop-i : goal.invariant-loop-i

@@ -1,10 +1,5 @@
-use mathlib.Core.Path.{◌≡◌}
-use Prim.Native.Nat.{◌+◌, ◌-◌, ◌≤◌}
 use native.Mathlib.Omega.{arith}
 use borrow.Author.Rules.{rules}
-use lib.ListN.{length, drop}
-use Rattle.config.specs.Sizes.{slots}
-use Rattle.slots.specs.Slots.{count_aims}
 use Rattle.slots.proofs.Laws.{count-from, count_past}
 use Rattle.slots.proofs.count_aims.Goals as goal
 

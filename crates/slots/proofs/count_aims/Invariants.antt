@@ -1,12 +1,9 @@
 -- `slots::count_aims` meets its contract. The loop's invariant: the count is that of the slots passed.
 use mathlib.Core.Path.{◌≡◌}
 use Prim.Native.Nat.{◌+◌, ◌-◌, ◌≤◌}
-use native.Mathlib.Omega.{arith}
-use borrow.Author.Rules.{rules}
 use lib.ListN.{length, drop}
 use Rattle.config.specs.Sizes.{slots}
 use Rattle.slots.specs.Slots.{count_aims}
-use Rattle.slots.proofs.Laws.{count-from, count_past}
 use Rattle.slots.proofs.count_aims.Given as goal
 
 abbrev pub invariant-loop-i : goal.invariant-loop-i

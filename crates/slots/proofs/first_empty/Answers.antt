@@ -1,10 +1,6 @@
-use mathlib.Core.Path.{◌≡◌, sym, ◌∙◌}
-use Prim.Native.Nat.{◌+◌, ◌-◌, ◌≤◌}
+use mathlib.Core.Path.{sym, ◌∙◌}
 use native.Mathlib.Omega.{arith}
 use borrow.Author.Rules.{rules}
-use lib.ListN.{length, drop}
-use Rattle.config.specs.Sizes.{slots}
-use Rattle.slots.specs.Slots.{first_empty}
 use Rattle.slots.proofs.Laws.{more-from, empty-from, empty-past}
 use Rattle.slots.proofs.first_empty.Goals as goal
 

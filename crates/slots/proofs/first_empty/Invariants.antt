@@ -1,12 +1,9 @@
 -- `slots::first_empty` meets its contract. The loop's invariant: none of the slots passed is empty.
-use mathlib.Core.Path.{◌≡◌, sym, ◌∙◌}
+use mathlib.Core.Path.{◌≡◌}
 use Prim.Native.Nat.{◌+◌, ◌-◌, ◌≤◌}
-use native.Mathlib.Omega.{arith}
-use borrow.Author.Rules.{rules}
 use lib.ListN.{length, drop}
 use Rattle.config.specs.Sizes.{slots}
 use Rattle.slots.specs.Slots.{first_empty}
-use Rattle.slots.proofs.Laws.{more-from, empty-from, empty-past}
 use Rattle.slots.proofs.first_empty.Given as goal
 
 abbrev pub invariant-loop-i : goal.invariant-loop-i

@@ -1,7 +1,5 @@
 -- `slots::is_empty` meets its contract.
 use mathlib.Core.Path.{sym, ◌∙◌}
-use borrow.Author.Rules.{rules}
-use borrow.Author.Tests.{not-true, not-false}
 use Rattle.slots.specs.Slots.{is_empty_slot}
 use Rattle.list.proofs.Bools.{and-false, and-true}
 use Rattle.slots.proofs.is_empty.Goals as goal

@@ -1,5 +1,4 @@
 -- `slots::kept_amount` meets its contract.
-use borrow.Author.Rules.{rules}
 use lib.Ieee.{of_bits, neg}
 use Rattle.slots.specs.Slots.{kept_amount}
 use Rattle.slots.proofs.kept_amount.Goals as goal

@@ -1,5 +1,4 @@
 -- `slots::kept_output` meets its contract.
-use borrow.Author.Rules.{rules}
 use lib.Ieee.{of_bits}
 use Rattle.slots.specs.Slots.{kept_output}
 use Rattle.slots.proofs.kept_output.Goals as goal

@@ -1,7 +1,5 @@
 -- `slots::numbers_finite` meets its contract.
 use mathlib.Core.Path.{sym, ◌∙◌}
-use borrow.Author.Rules.{rules}
-use borrow.Author.Tests.{not-true, not-false}
 use Rattle.slots.specs.Slots.{numbers_finite}
 use Rattle.list.proofs.Bools.{and-false, and-true}
 use Rattle.slots.proofs.numbers_finite.Goals as goal

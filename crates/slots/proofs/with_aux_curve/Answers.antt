@@ -1,5 +1,4 @@
 -- `slots::with_aux_curve` meets its contract.
-use borrow.Author.Rules.{rules}
 use Rattle.slots.specs.Slots.{with_polarity, with_aux, with_source_curve, with_aux_curve}
 use Rattle.slots.proofs.with_aux_curve.Goals as goal
 

@@ -1,7 +1,6 @@
 -- `slots_tables::allowed_where` meets its contract.
 use mathlib.Core.Path.{ap, ◌∙◌}
 use mathlib.Core.Bool.{not}
-use borrow.Author.Rules.{rules}
 use Rattle.list.proofs.Bools.{or-false}
 use Rattle.slots_tables.proofs.allowed_where.Goals as goal
 

@@ -1,10 +1,6 @@
-use mathlib.Core.Path.{◌≡◌, refl, sym, ◌∙◌}
-use Prim.Native.Nat.{◌-◌, ◌≤◌}
+use mathlib.Core.Path.{refl, sym, ◌∙◌}
 use native.Mathlib.Omega.{arith}
 use borrow.Author.Rules.{rules}
-use lib.ListN.{length, drop}
-use Rattle.config.specs.Sizes.{slots}
-use Rattle.slots_tables.specs.Tables.{any_names}
 use Rattle.list.proofs.Bools.{or-true, or-false}
 use Rattle.slots_tables.proofs.Laws.{names-from, names-past}
 use Rattle.slots_tables.proofs.any_names.Goals as goal

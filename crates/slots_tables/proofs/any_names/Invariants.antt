@@ -1,13 +1,9 @@
 -- `slots_tables::any_names` meets its contract. The loop's invariant: none of the slots passed names a table.
-use mathlib.Core.Path.{◌≡◌, refl, sym, ◌∙◌}
+use mathlib.Core.Path.{◌≡◌}
 use Prim.Native.Nat.{◌-◌, ◌≤◌}
-use native.Mathlib.Omega.{arith}
-use borrow.Author.Rules.{rules}
 use lib.ListN.{length, drop}
 use Rattle.config.specs.Sizes.{slots}
 use Rattle.slots_tables.specs.Tables.{any_names}
-use Rattle.list.proofs.Bools.{or-true, or-false}
-use Rattle.slots_tables.proofs.Laws.{names-from, names-past}
 use Rattle.slots_tables.proofs.any_names.Given as goal
 
 abbrev pub invariant-loop-i : goal.invariant-loop-i

@@ -1,7 +1,5 @@
 -- `slots_tables::curve_allowed` meets its contract.
 use mathlib.Core.Path.{sym, ◌∙◌}
-use borrow.Author.Rules.{rules}
-use borrow.Author.Tests.{not-true, not-false}
 use Rattle.slots_tables.specs.Rows.{curve_allowed}
 use Rattle.list.proofs.Bools.{and-false, and-true}
 use Rattle.slots_tables.proofs.curve_allowed.Goals as goal

@@ -1,6 +1,5 @@
 -- `slots_tables::names_table` meets its contract.
 use mathlib.Core.Path.{sym, ◌∙◌}
-use borrow.Author.Rules.{rules}
 use Rattle.slots_tables.specs.Tables.{names_table}
 use Rattle.list.proofs.Bools.{or-true, or-false}
 use Rattle.slots_tables.proofs.names_table.Goals as goal

@@ -1,6 +1,5 @@
 -- `slots_tables::place_allowed` meets its contract.
 use mathlib.Core.Path.{sym, ◌∙◌}
-use borrow.Author.Rules.{rules}
 use Rattle.list.specs.Part.{part}
 use Rattle.slots_tables.proofs.Laws.{place-past, place_short, place-whole}
 use Rattle.slots_tables.proofs.place_allowed.Goals as goal

@@ -1,5 +1,5 @@
 -- `slots_tables::rows_of_table` meets its contract.
-use borrow.Author.Tests.{not-true, not-false, eq-eqb, ne_eqb, lt-ltb, le-ltb}
+use borrow.Author.Tests.{eq-eqb, ne_eqb, lt-ltb, le-ltb}
 use Rattle.refusal.specs.Judge.{judged}
 use Rattle.curve_table.specs.Table.{points}
 use Rattle.slots_tables.specs.Tables.{tables_need}

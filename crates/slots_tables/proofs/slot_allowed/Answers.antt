@@ -1,7 +1,5 @@
 -- `slots_tables::slot_allowed` meets its contract.
 use mathlib.Core.Path.{sym, ◌∙◌}
-use borrow.Author.Rules.{rules}
-use borrow.Author.Tests.{not-true, not-false}
 use Rattle.slots_tables.specs.Tables.{slot_allowed}
 use Rattle.list.proofs.Bools.{and-false, and-true}
 use Rattle.slots_tables.proofs.Laws.{where-curve}

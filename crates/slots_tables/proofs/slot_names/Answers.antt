@@ -1,7 +1,6 @@
 -- `slots_tables::slot_names` meets its contract.
 use mathlib.Core.Path.{sym, ap, ◌∙◌}
 use mathlib.Core.Bool.{not}
-use borrow.Author.Rules.{rules}
 use Rattle.slots_tables.specs.Tables.{slot_names}
 use Rattle.list.proofs.Bools.{or-true, or-false}
 use Rattle.slots_tables.proofs.slot_names.Goals as goal

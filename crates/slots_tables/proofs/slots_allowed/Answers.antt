@@ -1,11 +1,6 @@
-use mathlib.Core.Path.{◌≡◌, refl, sym, ◌∙◌}
-use Prim.Native.Nat.{◌-◌, ◌≤◌}
+use mathlib.Core.Path.{refl, sym, ◌∙◌}
 use native.Mathlib.Omega.{arith}
 use borrow.Author.Rules.{rules}
-use borrow.Author.Tests.{not-true, not-false}
-use lib.ListN.{length, drop}
-use Rattle.config.specs.Sizes.{slots}
-use Rattle.slots_tables.specs.Tables.{slots_allowed}
 use Rattle.list.proofs.Bools.{and-false, and-true}
 use Rattle.slots_tables.proofs.Laws.{allowed-from, allowed-past}
 use Rattle.slots_tables.proofs.slots_allowed.Goals as goal

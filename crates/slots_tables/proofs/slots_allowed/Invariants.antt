@@ -1,14 +1,9 @@
 -- `slots_tables::slots_allowed` meets its contract. The loop's invariant: the named places of the slots passed are allowed.
-use mathlib.Core.Path.{◌≡◌, refl, sym, ◌∙◌}
+use mathlib.Core.Path.{◌≡◌}
 use Prim.Native.Nat.{◌-◌, ◌≤◌}
-use native.Mathlib.Omega.{arith}
-use borrow.Author.Rules.{rules}
-use borrow.Author.Tests.{not-true, not-false}
 use lib.ListN.{length, drop}
 use Rattle.config.specs.Sizes.{slots}
 use Rattle.slots_tables.specs.Tables.{slots_allowed}
-use Rattle.list.proofs.Bools.{and-false, and-true}
-use Rattle.slots_tables.proofs.Laws.{allowed-from, allowed-past}
 use Rattle.slots_tables.proofs.slots_allowed.Given as goal
 
 abbrev pub invariant-loop-i : goal.invariant-loop-i

@@ -1,5 +1,4 @@
 -- `slots_tables::write_table` meets its contract.
-use borrow.Author.Rules.{rules}
 use Rattle.list.specs.Rows.{on_row}
 use Rattle.slots_tables.specs.Tables.{with_table}
 use Rattle.slots_tables.proofs.write_table.Goals as goal

@@ -1,6 +1,5 @@
 -- `slots_tables::write_tables` meets its contract.
 use Rattle.list.specs.Part.{part}
-use borrow.Author.Rules.{rules}
 use Rattle.slots_tables.specs.Tables.{with_tables}
 use Rattle.slots_tables.proofs.write_tables.Goals as goal
 

@@ -5,7 +5,6 @@ use native.Mathlib.Omega.{arith}
 use Rattle.source_key.specs.Numbered.{longer}
 use borrow.Author.Tests.{lt-ltb}
 use Rattle.source_key.proofs.Reading.{above-by-tenth}
-use borrow.Author.Rules.{rules}
 use Rattle.source_key.proofs.above.Goals as goal
 
 pub returns-then-n-digit : goal.returns-then-n-digit

@@ -4,11 +4,9 @@ use mathlib.Core.Bool.{true, false}
 use mathlib.Core.List.{List}
 use Prim.Native.Nat.{ℕ}
 use lib.ListN.{length, take}
-use borrow.Author.Tests.{not-true, not-false}
 use Rattle.source_key.specs.Bytes.{same_bytes}
 use Rattle.source_key.specs.Numbered.{number_then}
 use Rattle.source_key.proofs.Reading.{front, rest_from, numbered-short, numbered-other, numbered-same}
-use borrow.Author.Rules.{rules}
 use Rattle.source_key.proofs.is_numbered.Goals as goal
 
 pub returns-then-key-start : goal.returns-then-key-start

@@ -1,11 +1,10 @@
 -- `source_key::number_then` meets its contract. Assumes nothing.
-use mathlib.Core.Path.{◌≡◌, sym, ◌∙◌}
+use mathlib.Core.Path.{sym, ◌∙◌}
 use Prim.Native.Nat.{◌<◌}
 use native.Mathlib.Omega.{arith}
 use lib.ListN.{length}
 use borrow.Author.Tests.{le-leb, lt-leb}
 use Rattle.source_key.proofs.Reading.{number-first, number-none}
-use borrow.Author.Rules.{rules}
 use Rattle.source_key.proofs.number_then.Goals as goal
 
 pub returns-then-rest-eq0 : goal.returns-then-rest-eq0

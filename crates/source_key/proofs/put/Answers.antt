@@ -1,7 +1,6 @@
 -- `source_key::put` meets its contract.
 use borrow.Author.Tests.{lt-ltb, le-ltb}
 use Rattle.source_key.specs.Text.{put_byte}
-use borrow.Author.Rules.{rules}
 use Rattle.source_key.proofs.put.Goals as goal
 
 pub returns-then-n-ge-KEY_BYTES : goal.returns-then-n-ge-KEY_BYTES

@@ -1,7 +1,5 @@
 -- `source_key::put_number` meets its contract.
-use native.Mathlib.Omega.{arith}
 use Rattle.source_key.proofs.Laws.{wrote_one, wrote-two, wrote-three}
-use borrow.Author.Rules.{rules}
 use Rattle.source_key.proofs.put_number.Goals as goal
 
 pub returns-then-n-lt10 : goal.returns-then-n-lt10

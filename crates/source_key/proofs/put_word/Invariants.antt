@@ -1,12 +1,8 @@
 -- `source_key::put_word` meets its contract.
-use mathlib.Core.Path.{◌≡◌, refl, sym, ap, ◌∙◌}
-use Prim.Native.Nat.{◌+◌, ◌-◌, ◌≤◌}
-use native.Mathlib.Omega.{arith}
-use borrow.Author.Rules.{rules}
+use mathlib.Core.Path.{◌≡◌}
+use Prim.Native.Nat.{◌-◌, ◌≤◌}
 use lib.ListN.{length, drop}
-use Rattle.source_key.specs.declared.Text.{Text}
 use Rattle.source_key.specs.Text.{put_all}
-use Rattle.source_key.proofs.Laws.{put-from, put-past}
 use Rattle.source_key.proofs.put_word.Given as goal
 
 abbrev pub invariant-loop-i : goal.invariant-loop-i

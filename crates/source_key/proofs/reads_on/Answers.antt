@@ -1,12 +1,12 @@
 use mathlib.Core.Path.{◌≡◌, refl, sym, ap, ◌∙◌}
 use mathlib.Core.Bool.{true, false}
 use mathlib.Core.List.{List}
-use Prim.Native.Nat.{ℕ, ◌+◌, ◌-◌, ◌≤◌, ◌<◌}
+use Prim.Native.Nat.{ℕ, ◌+◌, ◌<◌}
 use native.Mathlib.Omega.{arith}
 use lib.ListN.{length, get_or, drop}
-use borrow.Author.Tests.{ltb-true, ltb-false, not-true, not-false}
+use borrow.Author.Tests.{ltb-true, ltb-false}
 use Rattle.source_key.specs.Bytes.{same_bytes}
-use Rattle.source_key.specs.Numbered.{is_digit, longer, read_on}
+use Rattle.source_key.specs.Numbered.{is_digit, longer}
 use Rattle.source_key.proofs.Reading.{digit-from, rest_from, read_above, read-digit, read-other, read-end, empty-after}
 use borrow.Author.Rules.{rules}
 use Rattle.source_key.proofs.reads_on.Goals as goal

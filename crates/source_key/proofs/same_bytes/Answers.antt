@@ -1,9 +1,6 @@
-use mathlib.Core.Path.{◌≡◌, refl, sym, ◌∙◌}
-use Prim.Native.Nat.{◌-◌, ◌≤◌}
+use mathlib.Core.Path.{refl, sym, ◌∙◌}
 use native.Mathlib.Omega.{arith}
 use borrow.Author.Tests.{eq-eqb, ne_eqb}
-use lib.ListN.{length, get_or, drop}
-use Rattle.source_key.specs.Bytes.{same_bytes}
 use Rattle.source_key.proofs.Bytes.{same-lengths, same_from, same-past}
 use borrow.Author.Rules.{rules}
 use Rattle.source_key.proofs.same_bytes.Goals as goal

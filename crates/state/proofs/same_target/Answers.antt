@@ -1,6 +1,5 @@
 -- `state::same_target` meets its contract.
 use borrow.Author.Tests.{eq-eqb, ne_eqb}
-use borrow.Author.Rules.{rules}
 use Rattle.state.proofs.same_target.Goals as goal
 
 pub returns-in-Param-b : goal.returns-in-Param-b

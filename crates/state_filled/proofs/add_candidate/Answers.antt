@@ -1,5 +1,4 @@
 -- `state_filled::add_candidate` meets its contract.
-use borrow.Author.Rules.{rules}
 use borrow.Author.Tests.{lt-ltb, le-ltb}
 use Rattle.state_filled.specs.Filled.{with_candidate}
 use Rattle.state_filled.proofs.add_candidate.Goals as goal

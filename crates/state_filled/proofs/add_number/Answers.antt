@@ -1,7 +1,5 @@
 -- `state_filled::add_number` meets its contract.
-use borrow.Author.Rules.{rules}
 use borrow.Author.Tests.{lt-ltb, le-ltb}
-use native.Mathlib.Omega.{arith}
 use Rattle.state_filled.specs.Filled.{with_number}
 use Rattle.state_filled.proofs.add_number.Goals as goal
 

@@ -1,10 +1,9 @@
 use mathlib.Core.Path.{◌≡◌, sym, ◌∙◌}
-use Prim.Native.Nat.{◌≤◌, ◌-◌}
 use native.Mathlib.Omega.{arith}
 use borrow.Author.Rules.{rules}
 use lib.ListN.{length}
 use Rattle.list.proofs.Elements.{length-mapped}
-use Rattle.state_registry.proofs.Search.{Passed, passed_none, passed_here, passed-next, passed-all}
+use Rattle.state_registry.proofs.Search.{passed_none, passed_here, passed-next, passed-all}
 use Rattle.state_registry.proofs.dest_place.Goals as goal
 
 pub loop-i-init : goal.loop-i-init

@@ -1,12 +1,7 @@
 -- `state_registry::dest_place` meets its contract. The loop's invariant: the first i entries do not have the target.
 -- The measure is what is left of the registered entries.
-use mathlib.Core.Path.{◌≡◌, sym, ◌∙◌}
 use Prim.Native.Nat.{◌≤◌, ◌-◌}
-use native.Mathlib.Omega.{arith}
-use borrow.Author.Rules.{rules}
-use lib.ListN.{length}
-use Rattle.list.proofs.Elements.{length-mapped}
-use Rattle.state_registry.proofs.Search.{Passed, passed_none, passed_here, passed-next, passed-all}
+use Rattle.state_registry.proofs.Search.{Passed}
 use Rattle.state_registry.proofs.dest_place.Given as goal
 
 abbrev pub invariant-loop-i : goal.invariant-loop-i

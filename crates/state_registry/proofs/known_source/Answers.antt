@@ -1,5 +1,4 @@
 -- `state_registry::known_source` meets its contract.
-use borrow.Author.Rules.{rules}
 use Rattle.state_registry.proofs.known_source.Goals as goal
 
 pub returns : goal.returns

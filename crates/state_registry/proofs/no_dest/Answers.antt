@@ -1,5 +1,4 @@
 -- `state_registry::no_dest` meets its contract.
-use borrow.Author.Rules.{rules}
 use Rattle.state_registry.proofs.no_dest.Goals as goal
 
 pub returns : goal.returns

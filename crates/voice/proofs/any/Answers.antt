@@ -1,10 +1,8 @@
 use mathlib.Core.Path.{◌≡◌, refl, sym, ◌∙◌}
-use Prim.Native.Nat.{◌≤◌, ◌-◌}
-use lib.ListN.{length, drop}
+use lib.ListN.{length}
 use native.Mathlib.Omega.{arith}
 use Rattle.config.specs.Sizes.{most_voices}
 use Rattle.voice.proofs.Counted.{any_here, any_next, any-end}
-use Rattle.voice.specs.Marks.{any_of}
 use borrow.Author.Rules.{rules}
 use Rattle.voice.proofs.any.Goals as goal
 

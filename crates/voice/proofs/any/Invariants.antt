@@ -1,12 +1,9 @@
 -- `voice::any` meets its contract. The invariant: whether any from v on is on says it of all.
-use mathlib.Core.Path.{◌≡◌, refl, sym, ◌∙◌}
+use mathlib.Core.Path.{◌≡◌}
 use Prim.Native.Nat.{◌≤◌, ◌-◌}
-use lib.ListN.{length, drop}
-use native.Mathlib.Omega.{arith}
+use lib.ListN.{drop}
 use Rattle.config.specs.Sizes.{most_voices}
-use Rattle.voice.proofs.Counted.{any_here, any_next, any-end}
 use Rattle.voice.specs.Marks.{any_of}
-use borrow.Author.Rules.{rules}
 use Rattle.voice.proofs.any.Given as goal
 
 abbrev pub invariant-loop-v : goal.invariant-loop-v

@@ -1,11 +1,10 @@
 use mathlib.Core.Path.{◌≡◌, refl, sym, ◌∙◌}
-use Prim.Native.Nat.{◌≤◌, ◌-◌}
-use lib.ListN.{length, drop}
+use lib.ListN.{length}
 use native.Mathlib.Omega.{arith}
 use Rattle.list.proofs.Elements.{length-mapped}
 use Rattle.config.specs.Sizes.{most_voices}
 use Rattle.voice.proofs.Glides.{moving-here, moving-next, moving-end}
-use Rattle.voice.specs.Notes.{unread, any_moving}
+use Rattle.voice.specs.Notes.{unread}
 use borrow.Author.Rules.{rules}
 use Rattle.voice.proofs.any_moving.Goals as goal
 

@@ -1,13 +1,9 @@
 -- `voice::any_moving` meets its contract. The invariant: whether any from v on moves says it of all.
-use mathlib.Core.Path.{◌≡◌, refl, sym, ◌∙◌}
+use mathlib.Core.Path.{◌≡◌}
 use Prim.Native.Nat.{◌≤◌, ◌-◌}
-use lib.ListN.{length, drop}
-use native.Mathlib.Omega.{arith}
-use Rattle.list.proofs.Elements.{length-mapped}
+use lib.ListN.{drop}
 use Rattle.config.specs.Sizes.{most_voices}
-use Rattle.voice.proofs.Glides.{moving-here, moving-next, moving-end}
-use Rattle.voice.specs.Notes.{unread, any_moving}
-use borrow.Author.Rules.{rules}
+use Rattle.voice.specs.Notes.{any_moving}
 use Rattle.voice.proofs.any_moving.Given as goal
 
 abbrev pub invariant-loop-v : goal.invariant-loop-v

@@ -1,10 +1,8 @@
 use mathlib.Core.Path.{◌≡◌, refl, ◌∙◌}
-use Prim.Native.Nat.{◌≤◌, ◌-◌}
-use lib.ListN.{length, get_or, take}
+use lib.ListN.{length, get_or}
 use native.Mathlib.Omega.{arith}
 use Rattle.config.specs.Sizes.{most_voices}
 use Rattle.voice.proofs.Counted.{count_next, most-one}
-use Rattle.voice.specs.Voices.{count_on}
 use mathlib.Core.Bool.{false}
 use borrow.Author.Rules.{rules}
 use Rattle.voice.proofs.count_on.Goals as goal

@@ -1,13 +1,8 @@
 -- `voice::count_on` meets its contract. The invariant: those below v are counted.
-use mathlib.Core.Path.{◌≡◌, refl, ◌∙◌}
+use mathlib.Core.Path.{◌≡◌}
 use Prim.Native.Nat.{◌≤◌, ◌-◌}
-use lib.ListN.{length, get_or, take}
-use native.Mathlib.Omega.{arith}
-use Rattle.config.specs.Sizes.{most_voices}
-use Rattle.voice.proofs.Counted.{count_next, most-one}
+use lib.ListN.{take}
 use Rattle.voice.specs.Voices.{count_on}
-use mathlib.Core.Bool.{false}
-use borrow.Author.Rules.{rules}
 use Rattle.voice.proofs.count_on.Given as goal
 
 abbrev pub invariant-loop-v : goal.invariant-loop-v

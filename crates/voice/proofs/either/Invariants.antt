@@ -1,13 +1,9 @@
 -- `voice::either` meets its contract. The invariant: the marks below v are joined.
-use mathlib.Core.Path.{◌∙◌}
 use Prim.Native.Nat.{ℕ, ◌≤◌, ◌-◌}
 use lib.ListN.{get_or}
-use native.Mathlib.Omega.{arith}
-use Rattle.list.proofs.Filled.{Filled, filled_none, filled-read, filled_more, filled-all}
+use Rattle.list.proofs.Filled.{Filled}
 use mathlib.Core.Bool.{false, ◌||◌}
 use Rattle.config.specs.Sizes.{most_voices}
-use Rattle.voice.proofs.Elements.{fill-first}
-use borrow.Author.Rules.{rules}
 use Rattle.voice.proofs.either.Given as goal
 
 abbrev pub invariant-loop-v : goal.invariant-loop-v

@@ -1,7 +1,6 @@
 use mathlib.Core.Path.{refl}
-use Prim.Native.Nat.{ℕ, ◌≤◌, ◌-◌}
 use native.Mathlib.Omega.{arith}
-use Rattle.list.proofs.Filled.{Filled, filled_none, filled_more, filled-all}
+use Rattle.list.proofs.Filled.{filled_none, filled_more, filled-all}
 use Rattle.list.specs.Fill.{fill}
 use Rattle.config.specs.Sizes.{most_voices}
 use Rattle.voice.proofs.first_ranks.Goals as goal

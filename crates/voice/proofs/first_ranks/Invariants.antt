@@ -1,9 +1,6 @@
 -- `voice::first_ranks` meets its contract. The invariant: the elements below k are their numbers.
-use mathlib.Core.Path.{refl}
 use Prim.Native.Nat.{ℕ, ◌≤◌, ◌-◌}
-use native.Mathlib.Omega.{arith}
-use Rattle.list.proofs.Filled.{Filled, filled_none, filled_more, filled-all}
-use Rattle.list.specs.Fill.{fill}
+use Rattle.list.proofs.Filled.{Filled}
 use Rattle.config.specs.Sizes.{most_voices}
 use Rattle.voice.proofs.first_ranks.Given as goal
 

@@ -1,5 +1,4 @@
 -- `voice::glides_to` meets its contract.
-use borrow.Author.Rules.{rules}
 use Rattle.voice.proofs.glides_to.Goals as goal
 
 pub returns-in-Glide : goal.returns-in-Glide

@@ -1,5 +1,4 @@
 -- `voice::is_voice` meets its contract.
-use borrow.Author.Rules.{rules}
 use Rattle.voice.proofs.is_voice.Goals as goal
 
 pub returns-in-Voice : goal.returns-in-Voice

@@ -1,6 +1,5 @@
 -- `voice::later` meets its contract.
 use borrow.Author.Tests.{lt-ltb, le-ltb}
-use borrow.Author.Rules.{rules}
 use Rattle.voice.proofs.later.Goals as goal
 
 pub returns-in-Nobody : goal.returns-in-Nobody

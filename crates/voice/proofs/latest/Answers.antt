@@ -1,10 +1,7 @@
 use mathlib.Core.Path.{◌≡◌, refl, ◌∙◌}
-use Prim.Native.Nat.{◌≤◌, ◌-◌}
 use native.Mathlib.Omega.{arith}
 use Rattle.config.specs.Sizes.{most_voices}
 use Rattle.voice.proofs.Counted.{latest-next}
-use Rattle.voice.specs.Voices.{latest}
-use borrow.Author.Rules.{rules}
 use Rattle.voice.proofs.latest.Goals as goal
 
 pub loop-v-init : goal.loop-v-init

@@ -1,11 +1,8 @@
 -- `voice::latest` meets its contract. The invariant: the newest is the latest of the voices below v.
-use mathlib.Core.Path.{◌≡◌, refl, ◌∙◌}
+use mathlib.Core.Path.{◌≡◌}
 use Prim.Native.Nat.{◌≤◌, ◌-◌}
-use native.Mathlib.Omega.{arith}
 use Rattle.config.specs.Sizes.{most_voices}
-use Rattle.voice.proofs.Counted.{latest-next}
 use Rattle.voice.specs.Voices.{latest}
-use borrow.Author.Rules.{rules}
 use Rattle.voice.proofs.latest.Given as goal
 
 abbrev pub invariant-loop-v : goal.invariant-loop-v

@@ -1,5 +1,4 @@
 -- `voice::latest_with` meets its contract.
-use borrow.Author.Rules.{rules}
 use Rattle.voice.proofs.latest_with.Goals as goal
 
 pub returns-then-on : goal.returns-then-on

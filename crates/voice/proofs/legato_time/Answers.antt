@@ -1,5 +1,4 @@
 -- `voice::legato_time` meets its contract.
-use borrow.Author.Tests.{not-true, not-false}
 use lib.Ieee.{of_bits}
 use Rattle.voice.specs.Notes.{legato_time}
 use Rattle.voice.proofs.legato_time.Goals as goal

@@ -1,7 +1,6 @@
 -- `voice::moved` meets its contract.
 use mathlib.Core.Path.{sym}
 use Rattle.voice.specs.Notes.{moved}
-use borrow.Author.Rules.{rules}
 use Rattle.voice.proofs.moved.Goals as goal
 
 pub returns-then-arrives : goal.returns-then-arrives

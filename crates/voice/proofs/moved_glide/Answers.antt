@@ -1,7 +1,6 @@
 -- `voice::moved_glide` meets its contract.
 use mathlib.Core.Path.{sym}
 use Rattle.voice.specs.Notes.{moved_glide}
-use borrow.Author.Rules.{rules}
 use Rattle.voice.proofs.moved_glide.Goals as goal
 
 pub returns-then-arrives : goal.returns-then-arrives

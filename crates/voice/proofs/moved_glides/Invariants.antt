@@ -1,15 +1,10 @@
 -- `voice::moved_glides` meets its contract. The invariant: the glides below v are moved.
-use mathlib.Core.Path.{◌∙◌}
 use Prim.Native.Nat.{ℕ, ◌≤◌, ◌-◌}
 use lib.ListN.{get_or}
-use native.Mathlib.Omega.{arith}
-use Rattle.list.proofs.Filled.{Filled, filled_none, filled-read, filled_more, filled-all}
+use Rattle.list.proofs.Filled.{Filled}
 use lib.Ieee.{nan}
 use Rattle.config.specs.Sizes.{most_voices}
-use Rattle.voice.proofs.Elements.{fill-second}
-use Rattle.list.proofs.Elements.{length-mapped}
 use Rattle.voice.specs.Notes.{unread, moved_glide}
-use borrow.Author.Rules.{rules}
 use Rattle.voice.proofs.moved_glides.Given as goal
 
 abbrev pub invariant-loop-v : goal.invariant-loop-v

@@ -1,7 +1,6 @@
 -- `voice::moved_value` meets its contract.
 use mathlib.Core.Path.{sym}
 use Rattle.voice.specs.Notes.{moved_value}
-use borrow.Author.Rules.{rules}
 use Rattle.voice.proofs.moved_value.Goals as goal
 
 pub returns-then-is_moving : goal.returns-then-is_moving

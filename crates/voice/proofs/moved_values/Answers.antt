@@ -1,8 +1,6 @@
 use mathlib.Core.Path.{◌∙◌}
-use Prim.Native.Nat.{ℕ, ◌≤◌, ◌-◌}
-use lib.ListN.{get_or}
 use native.Mathlib.Omega.{arith}
-use Rattle.list.proofs.Filled.{Filled, filled_none, filled-read, filled_more, filled-all}
+use Rattle.list.proofs.Filled.{filled_none, filled-read, filled_more, filled-all}
 use lib.Ieee.{nan}
 use Rattle.config.specs.Sizes.{most_voices}
 use Rattle.voice.proofs.Elements.{fill-first}

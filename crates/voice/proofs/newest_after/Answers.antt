@@ -1,7 +1,6 @@
 -- `voice::newest_after` meets its contract.
 use mathlib.Core.Path.{sym}
 use Rattle.voice.specs.Voices.{newest_after}
-use borrow.Author.Rules.{rules}
 use Rattle.voice.proofs.newest_after.Goals as goal
 
 pub returns-then-is_voice : goal.returns-then-is_voice

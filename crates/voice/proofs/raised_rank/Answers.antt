@@ -1,6 +1,5 @@
 -- `voice::raised_rank` meets its contract.
 use borrow.Author.Tests.{lt-ltb, le-ltb}
-use borrow.Author.Rules.{rules}
 use Rattle.voice.proofs.raised_rank.Goals as goal
 
 pub returns-then-x-limit : goal.returns-then-x-limit

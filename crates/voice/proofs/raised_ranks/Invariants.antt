@@ -1,13 +1,9 @@
 -- `voice::raised_ranks` meets its contract. The invariant: the ranks below k are raised.
-use mathlib.Core.Path.{ap, ◌∙◌}
 use Prim.Native.Nat.{ℕ, ◌≤◌, ◌-◌}
 use lib.ListN.{get_or}
-use native.Mathlib.Omega.{arith}
-use Rattle.list.proofs.Filled.{Filled, filled_none, filled-read, filled_more, filled-all}
+use Rattle.list.proofs.Filled.{Filled}
 use Rattle.config.specs.Sizes.{most_voices}
-use Rattle.voice.proofs.Elements.{fill-map}
 use Rattle.voice.specs.Voices.{raised}
-use borrow.Author.Rules.{rules}
 use Rattle.voice.proofs.raised_ranks.Given as goal
 
 abbrev pub invariant-loop-k : goal.invariant-loop-k

@@ -1,7 +1,6 @@
 -- `voice::set_lane` meets its contract.
 use mathlib.Core.Path.{sym}
 use Rattle.voice.specs.Notes.{set_lane}
-use borrow.Author.Rules.{rules}
 use Rattle.voice.proofs.set_lane.Goals as goal
 
 pub returns-then-glides_to : goal.returns-then-glides_to

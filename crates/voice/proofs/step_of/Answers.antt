@@ -1,6 +1,5 @@
 -- `voice::step_of` meets its contract.
 use lib.Ieee.{of_bits}
-use borrow.Author.Rules.{rules}
 use Rattle.voice.proofs.step_of.Goals as goal
 
 pub returns-in-NoGlide : goal.returns-in-NoGlide

@@ -1,6 +1,5 @@
 -- `Marks::cleared` meets its contract.
 use Rattle.voice.specs.Marks.{marks_cleared}
-use borrow.Author.Rules.{rules}
 use Rattle.voice.proofs.Marks.cleared.Goals as goal
 
 pub returns : goal.returns

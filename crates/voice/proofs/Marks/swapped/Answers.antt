@@ -1,6 +1,5 @@
 -- `Marks::swapped` meets its contract.
 use Rattle.voice.specs.Marks.{marks_swapped}
-use borrow.Author.Rules.{rules}
 use Rattle.voice.proofs.Marks.swapped.Goals as goal
 
 pub returns : goal.returns

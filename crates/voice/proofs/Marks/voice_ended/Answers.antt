@@ -1,7 +1,6 @@
 -- `Marks::voice_ended` meets its contract.
 use borrow.Author.Tests.{lt-ltb, le-ltb}
 use Rattle.voice.specs.Marks.{marks_ended}
-use borrow.Author.Rules.{rules}
 use Rattle.voice.proofs.Marks.voice_ended.Goals as goal
 
 pub returns-then-voice-ge-VOICES : goal.returns-then-voice-ge-VOICES

@@ -1,6 +1,5 @@
 -- `Notes::advance` meets its contract. Where no glide moves, nothing does.
 use mathlib.Core.Path.{◌≡◌, sym, ◌∙◌}
-use borrow.Author.Tests.{not-true}
 use lib.ListN.{length}
 use Rattle.list.proofs.Elements.{length-mapped}
 use Rattle.config.specs.Sizes.{most_voices}

@@ -1,6 +1,5 @@
 -- `Notes::is_gliding` meets its contract.
 use Rattle.voice.specs.Notes.{gliding}
-use borrow.Author.Rules.{rules}
 use Rattle.voice.proofs.Notes.is_gliding.Goals as goal
 
 pub returns : goal.returns

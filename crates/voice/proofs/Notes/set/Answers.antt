@@ -1,7 +1,6 @@
 -- `Notes::set` meets its contract.
 use borrow.Author.Tests.{lt-ltb, le-ltb}
 use Rattle.voice.specs.Notes.{set_note}
-use borrow.Author.Rules.{rules}
 use Rattle.voice.proofs.Notes.set.Goals as goal
 
 pub returns-then-voice-ge-VOICES : goal.returns-then-voice-ge-VOICES

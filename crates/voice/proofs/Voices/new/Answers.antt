@@ -1,6 +1,5 @@
 -- `Voices::new` meets its contract.
 use Rattle.voice.specs.Voices.{no_voices}
-use borrow.Author.Rules.{rules}
 use Rattle.voice.proofs.Voices.new.Goals as goal
 
 pub returns : goal.returns

@@ -1,7 +1,6 @@
 -- `Voices::note_on` meets its contract.
 use borrow.Author.Tests.{lt-ltb, le-ltb}
 use Rattle.voice.specs.Voices.{ranks_on, sounded_on}
-use borrow.Author.Rules.{rules}
 use Rattle.voice.proofs.Voices.note_on.Goals as goal
 
 pub returns-then-voice-ge-VOICES : goal.returns-then-voice-ge-VOICES

@@ -1,7 +1,6 @@
 -- `Voices::voice_ended` meets its contract.
 use borrow.Author.Tests.{lt-ltb, le-ltb}
 use Rattle.voice.specs.Voices.{ended_of}
-use borrow.Author.Rules.{rules}
 use Rattle.voice.proofs.Voices.voice_ended.Goals as goal
 
 pub returns-then-voice-ge-VOICES : goal.returns-then-voice-ge-VOICES
