@@ -99,8 +99,8 @@ class Session:
                 slots.append("unused")
                 continue
             dst = f.get("dst", "-")
-            slots.append("record { source = %s; «source_curve» = %s; amount = %s; polarity = %s; destination = %s; aux = %s; "
-                         "«aux_invert» = %s; «aux_curve» = %s; output = %s; bypass = %s }"
+            slots.append("record { source = %s; source_curve = %s; amount = %s; polarity = %s; destination = %s; aux = %s; "
+                         "aux_invert = %s; aux_curve = %s; output = %s; bypass = %s }"
                          % (pick(f.get("src", "-")), curve(f.get("sc", "lin")), number(f.get("amt", "00000000")),
                             {"u": "Q.Unipolar", "b": "Q.Bipolar"}[f.get("pol", "u")],
                             "M.Nothing" if dst == "-" else "M.At %s" % target(dst), pick(f.get("aux", "-")),
@@ -164,7 +164,7 @@ def expected(answer):
         at = {k: w.index(k) for k in ("slot", "scope", "pol", "inv", "amt", "affine", "simple", "src", "aux")}
         src = w[at["src"] + 1:at["aux"]]
         aux = w[at["aux"] + 1:]
-        routes.append("record { slot = %s; source = %s; aux = %s; «aux_invert» = %s; bipolar = %s; amount = %s; output = %s; voice = %s; "
+        routes.append("record { slot = %s; source = %s; aux = %s; aux_invert = %s; bipolar = %s; amount = %s; output = %s; voice = %s; "
                       "scale = %s; offset = %s; simple = %s }"
                       % (w[at["slot"] + 1], inputs(src), "X.Missing" if aux == ["-"] else "X.With (%s)" % inputs(aux),
                          BOOL[w[at["inv"] + 1]], "true" if w[at["pol"] + 1] == "b" else "false", gain(w[at["amt"] + 1]),
@@ -203,7 +203,7 @@ def kinds(want, s):
         given = (s.dests[d][2], s.dests[d][5].split(":")[0])
         out.add((re.sub(r"\(fin.*?\)\)|\(inf .*?\)|nan|\d+", "", plan),) + given)
     for route in want[2]:
-        field = dict(re.findall(r"(\w+)»? = ([A-Z]\.\w+(?: .*?)?|true|false)[;)} ]", route))
+        field = dict(re.findall(r"(\w+) = ([A-Z]\.\w+(?: .*?)?|true|false)[;)} ]", route))
         out.add(("gains", field.get("amount"), field.get("output")))
         out.add(("marks", field.get("voice"), field.get("simple"), "X.With" in route))
         for read in re.findall(r"read = (D\.\w+)(?: \d+)?( \w+)?; bipolar = (\w+); table = (\w+); slew = (L\.\w+)", route):
@@ -242,8 +242,8 @@ def main():
     print("programs: %d examples" % len(found))
 
 
-UNFOLDED = ("targetPlace verdict verdictsFrom verdicts candidates skippedOf inUse countedFeed usedDests feederOf readersOf reads "
-            "hearsAudio isAudio controls audios planOrder slewFor inputBy routeBy routeIn planBy plansOf allRoutes order secondsOf "
-            "ratePerSample max32 isNan lt eq mul div")
+UNFOLDED = ("target_place verdict verdicts_from verdicts candidates skipped_of in_use counted_feed used_dests feeder_of readers_of reads "
+            "hears_audio is_audio controls audios plan_order slew_for input_by route_by route_in plan_by plans_of all_routes order seconds_of "
+            "rate_per_sample max32 is_nan lt eq mul div")
 if __name__ == "__main__":
     main()

@@ -50,9 +50,9 @@ def answers_of(text):
 def table(words):
     kind = words[2]
     if kind == "lin":
-        return "tabulated diagonalAt"
+        return "tabulated diagonal_at"
     if kind == "rev":
-        return "tabulated (λ i. diagonalAt (512 - i))"
+        return "tabulated (λ i. diagonal_at (512 - i))"
     if kind == "const":
         return "tabulated (λ i. %s)" % P.number(words[3])
     if kind == "step":
@@ -96,7 +96,7 @@ class Session(P.Session):
         parts = text.split("\n")
         sources, dests, slots = parts[1:]
         v, k = ["N.Linear" if t == "diag" else "N.Table" for t in self.note[:2]]
-        return ("wiredAs (record { «sample_rate» = %s; «max_frames» = %d; voices = %d })\n%s\n%s\n%s\n    %s %s %s %s"
+        return ("wired_as (record { sample_rate = %s; max_frames = %d; voices = %d })\n%s\n%s\n%s\n    %s %s %s %s"
                 % (P.number(self.rate), self.frames, self.voices, sources, dests, slots, v, k, P.BOOL[self.note[2]], P.BOOL[self.note[3]]))
 
     def tables_of(self):
@@ -118,13 +118,13 @@ class Session(P.Session):
                 out.append("replicate %d zero32" % ((p - at) * POINTS))
             if t != "diag" and t not in self.tables:
                 raise Skip("table")
-            out.append("tabulated diagonalAt" if t == "diag" else self.tables[t])
+            out.append("tabulated diagonal_at" if t == "diag" else self.tables[t])
             at = p + 1
         out.append("replicate %d zero32" % ((2 * SLOTS + 2 - at) * POINTS))
         return "(" + " ++ (".join(out) + ")" * len(out)
 
     def signals(self):
-        samples, parts = [], ["noPart"] * (max(self.bound, default=-1) + 1)
+        samples, parts = [], ["no_part"] * (max(self.bound, default=-1) + 1)
         for i, (stride, data) in sorted(self.bound.items()):
             parts[i] = "record { at = %d; len = %d; stride = %d }" % (len(samples), len(data), stride)
             samples += [P.number(x) for x in data]
@@ -170,7 +170,7 @@ class Session(P.Session):
         elif what == "set_voice_limit":
             self.calls.append("limit-set %s" % w[1])
         elif what == "note_on":
-            self.calls.append("note-on %s (record { key = %s; velocity = %s; legato = %s; glide-seconds = %s })"
+            self.calls.append("note-on %s (record { key = %s; velocity = %s; legato = %s; glide_seconds = %s })"
                               % (w[1], n(w[2]), n(w[3]), P.BOOL[w[4]], n(w[5])))
         elif what == "note_off":
             self.calls.append("note-off %s %s" % (w[1], n(w[2])))
@@ -210,7 +210,7 @@ def example(name, text):
 
 def definitions(i, name, s):
     """session number i as a runner, its calls, and what is seen after each block"""
-    kept = P.listed(["keptOf (%s) %s" % (w, t) for w, t in s.kept])
+    kept = P.listed(["kept_of (%s) %s" % (w, t) for w, t in s.kept])
     blocks, at = [], []
     for c in s.calls:
         if c is None:
@@ -218,18 +218,16 @@ def definitions(i, name, s):
             at = []
         else:
             at.append("(%s)" % c)
-    return ["-- %s\nr%d : Runner\nr%d =\n    startWith (%s)\n    (%s)\n" % (name, i, i, s.start, kept),
+    return ["-- %s\nr%d : Runner\nr%d =\n    start_with (%s)\n    (%s)\n" % (name, i, i, s.start, kept),
             "c%d : List (List Call)\nc%d = %s\n" % (i, i, P.listed(["(%s)" % P.listed(b) for b in blocks])),
             "e%d : reports c%d r%d ≡ %s\nunfolding c%d r%d ALL\ne%d = refl\n"
             % (i, i, i, P.listed(["(%s)" % P.listed(b) for b in s.reports]), i, i, i)]
 
 
-def write(path, parts, crate):
-    """the sessions of a file, with the definitions by the names that they have in that crate"""
-    path = os.path.join(HERE, path)
-    head = HEAD.replace("Rattle·model.", "Rattle·model·specs.") if crate == "model" else HEAD
-    with open(path, "w", encoding="utf-8") as f:
-        f.write("\n".join([head] + parts).replace(" ALL\n", " " + UNFOLDED + "\n"))
+def write(path, parts):
+    """the sessions of a file"""
+    with open(os.path.join(HERE, path), "w", encoding="utf-8") as f:
+        f.write("\n".join([HEAD] + parts).replace(" ALL\n", " " + UNFOLDED + "\n"))
 
 
 def main():
@@ -250,9 +248,9 @@ def main():
         small_one = not one and name.startswith(tuple("cases/" + b for b in BESIDE))
         (beside if small_one else parts).extend(definitions(done, name, s))
         done += 1
-    write(one or "../crates/model_examples/specs/SessionExamples.antt", parts, "model_examples")
+    write(one or "../crates/model_examples/specs/SessionExamples.antt", parts)
     if not one:
-        write("../crates/model/specs/SmallSessions.antt", beside, "model")
+        write("../crates/model/specs/SmallSessions.antt", beside)
     print("sessions: %d examples" % done)
 
 
