@@ -1,7 +1,7 @@
 -- What the steps of compiling give, put together, is the program. Assumes nothing.
-use mathlib.Core.Path.{◌≡◌, refl, sym, ap, ◌∙◌}
-use mathlib.Core.List.{List, [], ◌∷◌, map}
-use Prim.Native.Nat.{ℕ, ◌+◌, ◌≤◌}
+use mathlib.Core.Path.{◌≡◌, ap, ◌∙◌}
+use mathlib.Core.List.{List, [], map}
+use Prim.Native.Nat.{ℕ, ◌≤◌}
 use native.Mathlib.Omega.{arith}
 use lib.ListN.{length, length-map}
 use Rattle.config.specs.Sizes.{slots}
@@ -15,7 +15,6 @@ use Rattle.state_filled.specs.declared.Candidates.{Candidates}
 use Rattle.state_filled.specs.declared.Skips.{Skips}
 use Rattle.state_filled.specs.declared.UsedDests.{UsedDests}
 use Rattle.state_filled.specs.declared.Readers.{Readers}
-use Rattle.state_filled.specs.declared.Numbers.{Numbers}
 use Rattle.state_filled.specs.declared.Plans.{Plans}
 use Rattle.state_filled.specs.declared.Routes.{Routes}
 use Rattle.state_filled.specs.Filled.{no_plan, no_route, no_skip, candidates_of, candidates_in, skips_of, used_dests_of, used_dests_in, readers_in, numbers_of, numbers_in, plans_of, routes_of}
@@ -27,7 +26,7 @@ use Rattle.model.specs.Plans.{plans_in, routes_over, all_routes}
 use Rattle.model.specs.Plans.{plans_of as plansList}
 use Rattle.model.proofs.Candidates.{candidates-most}
 use Rattle.model.proofs.Ordered.{plan-order-distinct}
-use Rattle.model.proofs.RouteCount.{into, into-bound, routes-length}
+use Rattle.model.proofs.RouteCount.{into-bound, routes-length}
 use Rattle.compile_order.specs.declared.PlanOrder.{PlanOrder}
 use Rattle.compile_order.specs.Marks.{plan_order_in}
 use Rattle.compile_order.proofs.Order.{plan-order-is}

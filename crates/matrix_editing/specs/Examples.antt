@@ -8,7 +8,6 @@ use Rattle.state.specs.declared.Polarity.TheVariants as L
 use Rattle.state.specs.declared.Slot.{Slot}
 use Rattle.slots.specs.Slots.{empty_slot, route_slot}
 use Rattle.matrix_editing.specs.Drag.{centre_tolerance, centred, two_way, polarity_at, one_way_room, within, depth_at}
-use Rattle.matrix_editing.specs.Drag.{dragged_amount}
 use Rattle.matrix_editing.specs.Free.{in_use, first_free}
 
 -- the tolerance is the Rust's constant 0.005

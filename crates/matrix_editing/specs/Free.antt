@@ -1,5 +1,5 @@
 -- The first of a list of sources that no slot has (matrix.rs 381-385). Definitions only.
-use Rattle.std.specs.Prelude.{Bool, true, false, cond, ◌||◌, List, [], ◌∷◌, ℕ, suc, eqb}
+use Rattle.std.specs.Prelude.{Bool, false, cond, ◌||◌, List, [], ◌∷◌, ℕ, suc, eqb}
 use Rattle.state.specs.declared.Pick.{Pick}
 use Rattle.state.specs.declared.Pick.TheVariants as P
 use Rattle.state.specs.declared.Slot.{Slot}

@@ -1,10 +1,10 @@
 -- THE ONE CLAIM OVER EVERY LIST OF CALLS (demand 3; stated in specs/Claim.antt): from every engine whose programs are what their names were compiled from, and so from every fresh one.
 -- Assumes nothing.
 use mathlib.Core.Path.{◌≡◌, refl, sym, ap, ap₂, subst, ◌∙◌}
-use mathlib.Core.Logic.{◌⊎◌, inl, inr, ◌↔◌}
+use mathlib.Core.Logic.{◌↔◌}
 use mathlib.Core.Bool.{Bool, true, false, cond}
 use mathlib.Core.List.{List, [], ◌∷◌, ◌++◌, map}
-use Prim.Native.Nat.{ℕ, zero, suc, ◌+◌, ◌≤◌}
+use Prim.Native.Nat.{ℕ, zero, suc, ◌+◌}
 use native.Mathlib.Omega.{arith}
 use lib.Dec.{eqb}
 use lib.ListN.{length}
@@ -32,8 +32,8 @@ use Rattle.model.specs.Settings.{fresh_state, fresh_world, refused_state, new_ro
 use Rattle.model.specs.Process.{env_of, snap_at, block_of, loaded, drawn, chunk_steps, process}
 use Rattle.model.specs.Calls.{Call, block, other, Runner, on_world, called, run}
 use Rattle.model.specs.Rule.{Unbarred}
-use Rattle.model.specs.Model.{Ticks, Does, Rendered, Models, finish, call, walks}
-use Rattle.model.specs.Claim.{Moment, tick_at, chunk_ticks, block_ticks, call_ticks, ticks_of, standing, standings, call_due, due, stands, chainless, Claimed, Named, nothing_wired, Compiled, names_of, fresh_runner, Slotted, Each, Claim, TheClaim, FromFresh}
+use Rattle.model.specs.Model.{Ticks, Does, Models, finish, call, walks}
+use Rattle.model.specs.Claim.{Moment, tick_at, chunk_ticks, block_ticks, call_ticks, ticks_of, standing, standings, call_due, due, stands, chainless, Claimed, Named, nothing_wired, names_of, fresh_runner, Each, TheClaim, FromFresh}
 use Rattle.model.proofs.Conds.{cond-true}
 use Rattle.model.proofs.Made.{empty-is-compiled}
 use Rattle.model.proofs.Frames.{steps-frame}

@@ -1,6 +1,6 @@
 -- A choice by a test that is known. Assumes nothing.
-use mathlib.Core.Path.{◌≡◌, refl}
-use mathlib.Core.Bool.{Bool, true, false, cond, ◌&&◌}
+use mathlib.Core.Path.{◌≡◌}
+use mathlib.Core.Bool.{Bool, true, false, cond}
 
 module _ {A : Type 0} where
   pub cond-true : (b : Bool) (x y : A) → b ≡ true → cond b x y ≡ x

@@ -1,6 +1,6 @@
 -- What a block leaves alone: the installed program, the configuration, and how long the lent values are. Assumes nothing.
-use mathlib.Core.Path.{◌≡◌, refl, sym, ap, ◌∙◌}
-use mathlib.Core.Bool.{Bool, true, false, cond, ◌&&◌}
+use mathlib.Core.Path.{◌≡◌, refl, ◌∙◌}
+use mathlib.Core.Bool.{Bool, true, false, cond}
 use mathlib.Core.List.{List}
 use Prim.Native.Nat.{ℕ, zero, suc, ◌+◌, ◌-◌}
 use lib.ListN.{length, length-set, get_or, set}
@@ -14,14 +14,14 @@ use Rattle.state.specs.declared.Block.{Block}
 use Rattle.state.specs.declared.Chunk.{Chunk}
 use Rattle.state.specs.declared.Signals.{Signals}
 use Rattle.state.specs.declared.State.{State}
-use Rattle.model.specs.Counts.{voice_count, control_total, plan_total, route_total, plan_at, route_at}
+use Rattle.model.specs.Counts.{voice_count, control_total, plan_total, route_total, route_at}
 use Rattle.model.specs.Env.{Env, Own}
 use Rattle.model.specs.Tick.{put_slews, turn, turns, tick_of}
-use Rattle.model.specs.Audio.{Sounds, at_frame, audio_frame, audio_frames, audio_plans, audio_of}
+use Rattle.model.specs.Audio.{Sounds, audio_frame, audio_frames, audio_plans, audio_of}
 use Rattle.model.specs.Chunks.{chunk_of}
 use Rattle.model.specs.World.{World}
 use Rattle.model.specs.States.{with_marks, with_velocity, with_key, with_draw, with_phase, with_block, with_primed, put_state, put_held, put_globals, put_values, put_audio}
-use Rattle.model.specs.Process.{glided, loaded, Drawn, draw_voices, random_start, draw_read, draw_aux, draw_routes, put_drawn, drawn, env_of, snap_at, primed_with, ticked, row_of_chunk, rows_of_chunk, rowed, sounded, after_tick, chunk_step, chunk_steps, closed}
+use Rattle.model.specs.Process.{glided, loaded, Drawn, draw_voices, random_start, draw_read, draw_aux, draw_routes, put_drawn, drawn, env_of, snap_at, primed_with, ticked, rows_of_chunk, rowed, sounded, after_tick, chunk_step, chunk_steps, closed}
 use Rattle.model.proofs.FillFrom.{fill-length}
 
 -- ---- how long
@@ -147,7 +147,7 @@ pub after_frame : (samples : List Float) (signals : Signals) (i : ℕ) (c : Chun
 after_frame samples signals i c snap u =
     frame_on (rowed-frame i u) (frame_on (sounded-frame samples signals c snap (rowed i u)) (glided-frame c.len (sounded samples signals c snap (rowed i u))))
 
-ticked-frame : (samples : List Float) (signals : Signals) (c : Chunk) (snap : Bool) (u : World) → Frame u (ticked samples signals c snap u)
+pub ticked-frame : (samples : List Float) (signals : Signals) (c : Chunk) (snap : Bool) (u : World) → Frame u (ticked samples signals c snap u)
 ticked-frame samples signals c snap u =
     let t = env_of u samples signals c snap in
     cond-frame c.tick (primed-frame u (tick_of u.state t c.phase u.values) (tick-length u.state t c.phase u.values)) (frame_self u)

@@ -2,7 +2,7 @@
 -- matrix against empty registries gives. Assumes nothing.
 use mathlib.Core.Path.{◌≡◌, refl}
 use mathlib.Core.Logic.{◌≢◌}
-use mathlib.Core.List.{List, []}
+use mathlib.Core.List.{List}
 use borrow.Author.Tests.{ne_eqb}
 use lib.Ieee.{Float}
 use Rattle.config.specs.declared.Config.{Config}

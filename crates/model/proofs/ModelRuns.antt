@@ -1,8 +1,8 @@
 -- A block of the model is the block of the definitions, where a tick of the model is their tick. Assumes nothing.
 use mathlib.Core.Path.{◌≡◌, refl, sym, ap, ap₂, subst, ◌∙◌}
-use mathlib.Core.Logic.{◌⊎◌, inl, inr}
-use mathlib.Core.Bool.{Bool, true, false, not, cond, ◌&&◌, ◌||◌}
-use mathlib.Core.List.{List, [], ◌∷◌, ◌++◌}
+use mathlib.Core.Logic.{inl, inr}
+use mathlib.Core.Bool.{Bool, true, false, not, ◌&&◌, ◌||◌}
+use mathlib.Core.List.{List, [], ◌∷◌}
 use Prim.Native.Nat.{ℕ, zero, suc, ◌-◌, ◌≤◌, min}
 use native.Mathlib.Omega.{arith}
 use lib.Dec.{eqb, ltb}
@@ -24,7 +24,7 @@ use Rattle.model.specs.Counts.{frame_count, plan_total, route_total}
 use Rattle.model.specs.Tick.{tick_of}
 use Rattle.model.specs.Chunks.{chunk_total, chunk_of}
 use Rattle.model.specs.World.{World}
-use Rattle.model.specs.Process.{values_of, audio_need_of, tables_need_of, any_stride, any_outside, program_short, engine_short, process_rows, loaded, drawn, env_of, snap_at, primed_with, ticked, after_tick, chunk_step, chunk_steps, block_of, closed, routeless, routed, over_range, process}
+use Rattle.model.specs.Process.{values_of, audio_need_of, tables_need_of, any_stride, any_outside, program_short, engine_short, process_rows, loaded, drawn, env_of, snap_at, primed_with, after_tick, chunk_step, chunk_steps, block_of, closed, routeless, routed, over_range, process}
 use Rattle.model.specs.Model.{Ticks, Steps, still, ticks, Chunks, none, more, walks, Blocks, quiet, walked}
 use Rattle.model.proofs.Conds.{cond-true, cond-false}
 use Rattle.model.proofs.Frames.{Frame, frame_on, loaded-frame, drawn-frame, steps-frame}
@@ -48,7 +48,7 @@ good-frame {u = u} {v = v} f g =
 
 -- ---- an accepted block has room
 
-not-true : (b : Bool) → not b ≡ true → b ≡ false
+pub not-true : (b : Bool) → not b ≡ true → b ≡ false
 not-true true e = sym e
 not-true false e = refl
 

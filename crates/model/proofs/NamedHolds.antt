@@ -1,7 +1,7 @@
 -- Every call leaves each program what its name was compiled from, and so it is of every fresh engine. Assumes nothing.
 use mathlib.Core.Path.{◌≡◌, refl, sym, ap, subst, ◌∙◌}
 use mathlib.Core.Logic.{◌≢◌, ◌⊎◌, inl, inr}
-use mathlib.Core.Bool.{Bool, true, false, not, cond, ◌&&◌, ◌||◌}
+use mathlib.Core.Bool.{true, false, not, ◌&&◌, ◌||◌}
 use mathlib.Core.List.{List, [], ◌∷◌, map}
 use Prim.Native.Nat.{ℕ, zero, suc, ◌-◌, ◌<◌, max}
 use native.Mathlib.Omega.{arith}
@@ -34,8 +34,8 @@ use Rattle.model.specs.Counts.{stride_of, engine_sources, route_total}
 use Rattle.model.specs.Chunks.{chunk_total}
 use Rattle.model.specs.World.{World, mark_at, held_place, held_of, is_velocity, is_key, is_release, is_random}
 use Rattle.model.specs.States.{with_voices, with_marks, with_velocity, with_key, with_gains, with_alternate, with_draw, with_limit, with_primed, with_program, put_state, put_held, put_globals, put_bases}
-use Rattle.model.specs.Process.{process_rows, loaded, drawn, glided, block_of, no_block, chunk_steps, closed, routeless, routed, over_range, process}
-use Rattle.model.specs.Settings.{Done, done_by, fresh_state, held_rows, held_world, voice_held_rows, base_rows, gain_rows, with_amount, with_output, set_held, set_voice_held, set_base, set_amount, set_output, set_voice_limit, set_draw, swap_rows, installed, swap_program}
+use Rattle.model.specs.Process.{process_rows, loaded, drawn, glided, block_of, no_block, chunk_steps, routeless, routed, over_range, process}
+use Rattle.model.specs.Settings.{done_by, fresh_state, held_rows, held_world, voice_held_rows, base_rows, gain_rows, with_amount, with_output, set_held, set_voice_held, set_base, set_amount, set_output, set_voice_limit, set_draw, swap_rows, installed, swap_program}
 use Rattle.model.specs.NoteCalls.{Note, velocity_target, key_target, legato_of, written_at, alternates, note_on_rows, note_begun, velocity_set, key_set, randoms_set, alternated, noted_on, note_off_rows, released_to, voice_ended_rows, ended, note_on, note_off, voice_ended}
 use Rattle.model.specs.Calls.{Call, block, other, Other, set-held, set-voice-held, set-base, set-amount, set-output, set-limit, set-draw, start-note, release-note, end-voice, install, lend-program, lend-engine, look, Kept, Runner, kept_of, no_kept, on_world, returned, exchanged, kept_at, program_at, swapped, lent_values, program_arrives, engine_arrives, effect_of, called}
 use Rattle.model.specs.Claim.{Named, nothing_wired, Compiled, names_of, fresh_runner, Slotted}
@@ -143,7 +143,7 @@ module _ (v : ℕ) (n : Note) where
 
 -- ---- a block
 
-block-stays : (u : World) (samples : List Float) (signals : Signals) (start end : ℕ) → Stays u (process u samples signals start end).world
+pub block-stays : (u : World) (samples : List Float) (signals : Signals) (start end : ℕ) → Stays u (process u samples signals start end).world
 unfolding process
 block-stays u samples signals start end =
     let b = block_of u.state start end in
@@ -216,7 +216,7 @@ abbrev back : Runner → Kept
 back r = record { program = r.world.state.program; values = r.world.values; audio = r.world.audio; tables = r.world.tables }
 
 -- a program that is not installed is the one that is kept
-other-kept : (r : Runner) (k : ℕ) → k ≢ r.installed → program_at r k ≡ (get_or r.kept k (no_kept r.world.state.config)).program
+pub other-kept : (r : Runner) (k : ℕ) → k ≢ r.installed → program_at r k ≡ (get_or r.kept k (no_kept r.world.state.config)).program
 other-kept r k ne = ap (λ (x : Kept). x.program) (get_or-set_other r.kept r.installed k (back r) (no_kept r.world.state.config) ne)
 
 module _ (names : ℕ → Wiring) (r : Runner) (h : Named names r) where
@@ -315,7 +315,7 @@ module _ (names : ℕ → Wiring) (r : Runner) (h : Named names r) where
 
 -- ---- a fresh engine
 
-new-slots : length new_matrix.slot ≡ slots
+pub new-slots : length new_matrix.slot ≡ slots
 unfolding new_matrix empty_slot
 new-slots = refl
 
@@ -325,7 +325,7 @@ module _ (c : Config) where
   given (p ∷ ps) zero = refl
   given (p ∷ ps) (suc k) = given ps k
 
-  given-slots : (ps : List Compiled) → Slotted ps → (k : ℕ) → length (get_or (map (λ p. p.wiring) ps) k (nothing_wired c)).matrix.slot ≡ slots
+  pub given-slots : (ps : List Compiled) → Slotted ps → (k : ℕ) → length (get_or (map (λ p. p.wiring) ps) k (nothing_wired c)).matrix.slot ≡ slots
   given-slots [] s k = new-slots
   given-slots (p ∷ ps) s zero = s.0
   given-slots (p ∷ ps) s (suc k) = given-slots ps s.1 k

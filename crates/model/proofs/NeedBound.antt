@@ -1,6 +1,6 @@
 -- The need of a program is within document 01's bound: for at most 64 plans whatever the routes, and for at most 96 plans, each with a route of its own.
 -- Both numbers follow from the bound, not from the number of slots (docs/DECISIONS.md, D81).
-use mathlib.Core.Path.{◌≡◌, sym, ap, ◌∙◌}
+use mathlib.Core.Path.{◌≡◌, ap, ◌∙◌}
 use Prim.Native.Nat.{ℕ, ◌+◌, ◌*◌, ◌-◌, ◌/◌, ◌≤◌}
 use native.Mathlib.Nat.{mul-add, add-mul, mul-le-mul_left, mul-le-mul_right}
 use native.Mathlib.Decide.{dec_le}

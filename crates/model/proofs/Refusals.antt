@@ -13,7 +13,7 @@ use borrow.Author.Tests.{eq-eqb, ne_eqb}
 use Rattle.config.specs.Sizes.{most_signal_stride}
 use Rattle.config.specs.declared.Config.{Config}
 use Rattle.refusal.specs.Judge.{Row, First, ◌when◌, judged}
-use Rattle.refusal.proofs.Laws.{judged-none, judged-first}
+use Rattle.refusal.proofs.Laws.{judged-first}
 use Rattle.feed.proofs.Tests.{which}
 use Rattle.state.specs.declared.Sources.{Sources}
 use Rattle.state.specs.declared.Destinations.{Destinations}
@@ -23,7 +23,7 @@ use Rattle.state.specs.declared.State.{State}
 use Rattle.model.specs.World.{World, held_place}
 use Rattle.model.specs.States.{with_gains, with_draw, with_limit, put_state, put_held, put_bases}
 use Rattle.model.specs.Process.{process_rows, process}
-use Rattle.model.specs.Settings.{Done, done_by, held_rows, held_world, voice_held_rows, base_rows, gain_rows, with_amount, with_output, set_held, set_voice_held, set_base, set_amount, set_output, set_voice_limit, set_draw, swap_program, refused_state, new_rows, fresh_world, new_engine, bind_signal}
+use Rattle.model.specs.Settings.{Done, done_by, held_rows, held_world, voice_held_rows, base_rows, gain_rows, with_amount, with_output, set_held, set_voice_held, set_base, set_amount, set_output, set_voice_limit, set_draw, swap_program, refused_state, new_rows, new_engine, bind_signal}
 use Rattle.model.specs.Outputs.{reading_number, ramped_number, reading_by, values_short, is_control_plan, ramped, ramp_of, ramp_length, latest_all}
 use Rattle.model.specs.NoteCalls.{voice_row, Note, note_on_rows, noted_on, note_off_rows, released_to, voice_ended_rows, ended, note_on, note_off, voice_ended}
 use Rattle.model.specs.Calls.{Call, block, other, Other, set-held, set-voice-held, set-base, set-amount, set-output, set-limit, set-draw, start-note, release-note, end-voice, install, lend-program, lend-engine, look, Runner, on_world, program_at, effect_of, called, code_of, call_rows}

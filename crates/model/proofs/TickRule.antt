@@ -1,7 +1,7 @@
 -- THE TICK AND THE RULE: of a compiled program without a chain of counted feeds, the numbers that a tick leaves meet the rule, and no others do, as equality compares and as document 01 does.
 -- Assumes nothing.
 use mathlib.Core.Path.{◌≡◌, refl, sym, ap, subst, ◌∙◌}
-use mathlib.Core.Logic.{◌≢◌, ◌⊎◌, inl, inr}
+use mathlib.Core.Logic.{◌≢◌, inl, inr}
 use mathlib.Core.Bool.{Bool, true, false, not, cond}
 use mathlib.Core.List.{List}
 use Prim.Native.Nat.{ℕ, zero, suc, ◌+◌, ◌≤◌, ◌<◌, min}
@@ -14,25 +14,23 @@ use Rattle.config.specs.Sizes.{slots, most_voices}
 use Rattle.number.specs.Same.{◌≈◌}
 use Rattle.number.proofs.Same.{same-sym, same-trans}
 use Rattle.feed.specs.Numbers.{In, index_of}
-use Rattle.feed.specs.Rule.{upd}
 use Rattle.feed.proofs.Place.{upd_same, upd_other}
 use Rattle.feed.proofs.Keep.{keep-from}
 use Rattle.state.specs.declared.Route.{Route}
 use Rattle.state.specs.declared.State.{State}
 use Rattle.state.specs.declared.Wiring.{Wiring}
-use Rattle.model.specs.Feeds.{in_use, is_audio, dest_voice, feeder_of, reader_by, controls, reads, plan_order}
+use Rattle.model.specs.Feeds.{in_use, is_audio, dest_voice, feeder_of, reader_by, controls, plan_order}
 use Rattle.model.specs.Routes.{route_by, route_in}
 use Rattle.model.specs.Plans.{compiled}
 use Rattle.model.specs.Counts.{stride_of, plan_total, control_total, plan_at, route_at, at}
 use Rattle.model.specs.Layout.{plan_width}
-use Rattle.model.specs.Env.{Env, Rows, Own}
-use Rattle.model.specs.Mix.{Mix, plan_mix}
+use Rattle.model.specs.Env.{Env, Rows}
+use Rattle.model.specs.Mix.{plan_mix}
 use Rattle.model.specs.Slews.{source_after, aux_after}
 use Rattle.model.specs.Tick.{mix_width, new_to, new_from, lanes_from, from_start, to_start, own_start, rows_of, own_of, turns, tick_of}
 use Rattle.model.specs.Process.{values_of}
-use Rattle.model.specs.Outputs.{plan_place}
-use Rattle.model.specs.Rule.{Values, slot_of, slot_route, slots_into, slot_into, dest_mix, lanes_of, owns_of, seen, ruled, Meets, Rule, Barred, Unbarred}
-use Rattle.model.specs.Model.{route_place, values_in, written, Ticks, by-rule, by-definition}
+use Rattle.model.specs.Rule.{Values, slot_of, slot_route, slots_into, slot_into, dest_mix, lanes_of, owns_of, seen, ruled, Meets, Rule, Unbarred}
+use Rattle.model.specs.Model.{values_in, written, Ticks, by-rule, by-definition}
 use Rattle.model.specs.Claim.{Moment, before, after, Alike, Breaks, Alone, Claimed}
 use Rattle.model.proofs.ProgramLayout.{stride-least}
 use Rattle.model.proofs.RouteReads.{Reads}
@@ -41,7 +39,7 @@ use Rattle.model.proofs.Compared.{compared-respected, equal-decided, compared-de
 use Rattle.model.proofs.Compared as C
 use Rattle.model.proofs.Turns.{Laid, written_same, to-early, from-early, own-early, to-done, from-done, source-done, aux-done, turns-written}
 use Rattle.model.proofs.Compiled.{PlanOf, plan-of, place_of, control-place, control-dest, route-of, route-place, routes-apart, routes-inside, slot-dest}
-use Rattle.model.proofs.Renamed.{plan_route, Placed, to-placed, from-placed, source-placed, aux-placed, width-placed}
+use Rattle.model.proofs.Renamed.{Placed, to-placed, from-placed, source-placed, aux-placed, width-placed}
 use Rattle.model.proofs.ReadFeeds.{reads-from, reads-slot, read_first, chain-or-none}
 
 -- ---- a comparison of numbers by which the rule can be asked

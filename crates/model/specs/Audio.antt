@@ -1,12 +1,12 @@
 -- The audio rows of a chunk: frame after frame, slews moving by one sample (engine.rs 940-1006, 1224-1294; document 01,
 -- Chunk and value). Definitions only.
-use Rattle.std.specs.Prelude.{Bool, true, false, not, cond, ◌&&◌, ◌||◌, List, ℕ, zero, suc, ◌+◌, ◌-◌, eqb, ltb, Float}
+use Rattle.std.specs.Prelude.{Bool, true, false, not, cond, ◌&&◌, ◌||◌, List, ℕ, zero, suc, ◌+◌, ◌-◌, eqb, Float}
 use Rattle.std.specs.Float.{inf}
 use Rattle.std.specs.Float.Ieee.{lt}
 use Rattle.number.specs.Number.{one32, hold}
 use Rattle.state.specs.declared.Chunk.{Chunk}
 use Rattle.state.specs.declared.State.{State}
-use Rattle.model.specs.Counts.{frame_count, stride_of, plan_total, control_total, plan_at, at}
+use Rattle.model.specs.Counts.{frame_count, stride_of, plan_total, control_total, plan_at}
 use Rattle.model.specs.Env.{Env, Rows, Own}
 use Rattle.model.specs.Mix.{Mix, plan_mix}
 use Rattle.model.specs.Lanes.{in_span}

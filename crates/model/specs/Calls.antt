@@ -1,5 +1,5 @@
 -- Lists of calls on one engine, with the programs that it may be given (document 01, The model). Definitions only.
-use Rattle.std.specs.Prelude.{Bool, true, false, not, cond, ◌&&◌, ◌||◌, List, [], ◌∷◌, ◌++◌, ℕ, ◌*◌, eqb, ltb, length, get_or, set, replicate, Float}
+use Rattle.std.specs.Prelude.{cond, List, [], ◌∷◌, ℕ, ◌*◌, eqb, ltb, length, get_or, set, replicate, Float}
 use Rattle.number.specs.Number.{zero32}
 use Rattle.config.specs.declared.Config.{Config}
 use Rattle.state.specs.declared.Sources.{Sources}

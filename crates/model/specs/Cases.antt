@@ -2,7 +2,7 @@
 -- what document 01 says; a binary32 stands by its bits. Definitions only; that each case holds is the one theorem of
 -- proofs/CasesHold.antt.
 use Rattle.std.specs.Prelude.{true, false, cond, List, [], ◌∷◌, ◌++◌, map, ℕ, suc, pos, negsuc, length, get_or, Float}
-use Rattle.std.specs.Float.{fin, inf, binary32}
+use Rattle.std.specs.Float.{fin, binary32}
 use Rattle.std.specs.Float.Ieee.{to_bits}
 use Rattle.number.specs.Number.{zero32, half32, one32, plus, times}
 use Rattle.draw.specs.Xorshift.{step}

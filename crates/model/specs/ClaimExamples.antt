@@ -1,6 +1,6 @@
 -- The claim, worked out: the ticks of document 01's cases 5 and 10, each with what stands before it, what the tick
 -- leaves and what the rule asks for; a swap to the installed number; and which wirings are barred. Definitions only.
-use Rattle.std.specs.Prelude.{◌≡◌, refl, true, false, List, [], ◌∷◌, ◌++◌, map, ℕ, pos, negsuc, length, set}
+use Rattle.std.specs.Prelude.{◌≡◌, refl, true, false, List, [], ◌∷◌, ◌++◌, map, ℕ, negsuc, length, set}
 use Rattle.std.specs.Float.Ieee.{to_bits, add, sub, mul, div, neg, lt, eq, is_nan, of_int, to_unsigned, le, ne}
 use Rattle.std.specs.Float.{fin, binary32}
 use Rattle.number.specs.Number.{max32, min32, clamp_to, abs_of, hold, finite, half32}
@@ -58,7 +58,7 @@ use Rattle.model.specs.Outputs.{from_part, to_part}
 use Rattle.model.specs.Calls.{run, Call, amount-set, draw-set, voice-ended, swap, Runner}
 use Rattle.model.specs.Cases.{source, dest, wired, feeding, route, slot, constant, quarter, over, note}
 use Rattle.model.specs.Claim.{chainless, Moment, Compiled, names_of, fresh_runner, before, after, chunk_ticks}
-use Rattle.model.specs.Claim.{ticks_of, tick_total, due}
+use Rattle.model.specs.Claim.{ticks_of, tick_total}
 use Rattle.model.specs.Rule.{slot_route, slots_into, slot_into, lanes_of, ruled}
 use Rattle.model.specs.Model.{route_place}
 

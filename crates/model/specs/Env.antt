@@ -1,6 +1,6 @@
 -- What a value in one lane is worked out from: everything that is read and not written while one destination is worked
 -- out, at one frame (engine.rs 781-794). No program and no plan stands in it. Definitions only.
-use Rattle.std.specs.Prelude.{Bool, true, false, not, cond, ◌&&◌, List, ℕ, ◌+◌, ◌*◌, max, ltb, get_or, Float}
+use Rattle.std.specs.Prelude.{Bool, true, false, cond, List, ℕ, ◌+◌, ◌*◌, max, ltb, get_or, Float}
 use Rattle.std.specs.Float.{nan}
 use Rattle.number.specs.Number.{zero32, times}
 use Rattle.voice.specs.declared.Voices.{Voices}

@@ -1,5 +1,5 @@
 -- One input of a route, in one lane (engine.rs 1401-1478; document 01, Chunk and value). Definitions only.
-use Rattle.std.specs.Prelude.{Bool, true, false, cond, List, ℕ, ◌+◌, ◌*◌, Float}
+use Rattle.std.specs.Prelude.{Bool, true, false, cond, ℕ, ◌+◌, ◌*◌, Float}
 use Rattle.list.specs.Rows.{row_at}
 use Rattle.number.specs.Number.{one32, half32, plus, times}
 use Rattle.curve_table.specs.Table.{points, lookup_of}

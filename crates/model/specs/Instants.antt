@@ -1,6 +1,6 @@
 -- What `said` is given at a tick of a list of calls: the state before it, the signals, and where the chunk stands, read
 -- off the engine and the lent memories. Definitions only.
-use Rattle.std.specs.Prelude.{Bool, false, cond, List, ℕ, ◌+◌, ◌*◌, max, ltb, get_or, Float}
+use Rattle.std.specs.Prelude.{false, cond, List, ℕ, ◌+◌, ◌*◌, max, ltb, get_or, Float}
 use Rattle.std.specs.Float.{nan}
 use Rattle.list.specs.Rows.{row_at}
 use Rattle.curve_table.specs.Table.{points}

@@ -1,6 +1,6 @@
 -- What is read of an engine: the shape of an output, its rows, chunks and single numbers (engine.rs 105-190, 382-390,
 -- 613-690; document 01, Chunk and value). Definitions only.
-use Rattle.std.specs.Prelude.{◌≡◌, refl, Bool, true, false, not, cond, ◌&&◌, ◌||◌, List, [], ◌∷◌, ◌++◌, map, ℕ, zero, suc, ◌+◌, ◌-◌, ◌*◌, min, eqb, leb, ltb, length, get_or, take, Float}
+use Rattle.std.specs.Prelude.{◌≡◌, refl, Bool, true, false, not, cond, ◌&&◌, ◌||◌, List, [], ◌∷◌, ◌++◌, map, ℕ, zero, suc, ◌+◌, ◌-◌, ◌*◌, min, eqb, ltb, length, take, Float}
 use Rattle.std.specs.Float.{nan}
 use Rattle.config.specs.Sizes.{period, most_destinations}
 use Rattle.feed.specs.Numbers.{up_from}

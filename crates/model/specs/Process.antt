@@ -1,6 +1,6 @@
 -- A block: open (load, draws), a step a chunk (tick, chunk rows, audio rows, glides), close (phase, marks) (engine.rs
 -- 547-611, 756-769, 804-1011; document 01, Chunk and value). Definitions only.
-use Rattle.std.specs.Prelude.{Bool, true, false, not, cond, ◌&&◌, ◌||◌, List, [], ◌∷◌, ℕ, zero, suc, ◌+◌, ◌-◌, ◌*◌, ◌%◌, eqb, ltb, length, get_or, set, take, Float}
+use Rattle.std.specs.Prelude.{Bool, true, false, cond, ◌&&◌, ◌||◌, List, [], ◌∷◌, ℕ, zero, suc, ◌+◌, ◌-◌, ◌*◌, ◌%◌, eqb, ltb, length, get_or, set, Float}
 use Rattle.config.specs.Sizes.{period, most_signal_stride}
 use Rattle.draw.specs.Xorshift.{step, draw_of}
 use Rattle.refusal.specs.Judge.{Row, ◌when◌, judged}
@@ -27,7 +27,7 @@ use Rattle.model.specs.Env.{Env}
 use Rattle.model.specs.Layout.{plan_width, plan_from, plan_to, chunk_from, chunk_to, route_random}
 use Rattle.model.specs.Tick.{off_phase, fill_from, lanes_from, tick_of}
 use Rattle.model.specs.Audio.{Sounds, audio_of}
-use Rattle.model.specs.Chunks.{chunk_total, chunk_of, chunk_list}
+use Rattle.model.specs.Chunks.{chunk_total, chunk_of}
 use Rattle.model.specs.World.{World, held_of, is_velocity, is_key, load_by}
 use Rattle.model.specs.States.{with_marks, with_velocity, with_key, with_draw, with_phase, with_block, with_primed}
 use Rattle.model.specs.States.{put_state, put_held, put_globals, put_values, put_audio}

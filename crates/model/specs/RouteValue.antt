@@ -1,5 +1,5 @@
 -- A route's value in one lane (engine.rs 1013-1039, 1345-1399; document 01, Chunk and value). Definitions only.
-use Rattle.std.specs.Prelude.{Bool, true, false, not, cond, ◌&&◌, ◌||◌, List, ℕ, ◌+◌, ◌*◌, leb, ltb, Float}
+use Rattle.std.specs.Prelude.{Bool, true, false, not, cond, ◌&&◌, ℕ, ◌*◌, leb, ltb, Float}
 use Rattle.std.specs.Float.Ieee.{eq}
 use Rattle.number.specs.Number.{zero32, one32, two32, plus, less, times}
 use Rattle.state.specs.declared.Read.{Read}

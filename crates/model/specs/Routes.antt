@@ -10,11 +10,8 @@ use Rattle.slew.specs.Slew.{rate_per_sample}
 use Rattle.feed.specs.Numbers.{index_of}
 use Rattle.state.specs.declared.Kind.{Kind}
 use Rattle.state.specs.declared.Kind.TheVariants as K
-use Rattle.state.specs.declared.Scope.{Scope}
-use Rattle.state.specs.declared.Scope.TheVariants as S
 use Rattle.state.specs.declared.Range.{Range}
 use Rattle.state.specs.declared.Range.TheVariants as R
-use Rattle.state.specs.declared.Pick.{Pick}
 use Rattle.state.specs.declared.Pick.TheVariants as P
 use Rattle.state.specs.declared.Aim.TheVariants as A
 use Rattle.state.specs.declared.Polarity.{Polarity}

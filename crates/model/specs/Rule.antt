@@ -2,7 +2,7 @@
 -- registries and configuration; it asks of numbers proposed for each control destination in use that each be the base
 -- and the routes' terms, added and held to the bounds, with each fed input read from the numbers proposed, or, fed by
 -- itself, from its own before. Definitions only.
-use Rattle.std.specs.Prelude.{◌≡◌, Bool, cond, List, [], ◌∷◌, ℕ, ◌<◌, eqb, length, get_or, Float}
+use Rattle.std.specs.Prelude.{◌≡◌, cond, List, [], ◌∷◌, ℕ, ◌<◌, eqb, length, get_or, Float}
 use Rattle.feed.specs.Numbers.{In}
 use Rattle.feed.specs.Chain.{Chain, Acyclic}
 use Rattle.feed.specs.Rule.{upd}

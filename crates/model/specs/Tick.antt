@@ -1,6 +1,6 @@
 -- A control tick: each control plan's new numbers, where its ramps start, and its slews, plan by plan in the lent
 -- values (engine.rs 843-935; document 01, Chunk and value). Definitions only.
-use Rattle.std.specs.Prelude.{Bool, true, false, not, cond, ◌&&◌, ◌||◌, List, ℕ, zero, suc, ◌+◌, ◌*◌, eqb, set, Float}
+use Rattle.std.specs.Prelude.{Bool, not, cond, ◌&&◌, ◌||◌, List, ℕ, zero, suc, ◌+◌, eqb, set, Float}
 use Rattle.number.specs.Number.{hold}
 use Rattle.state.specs.declared.State.{State}
 use Rattle.model.specs.Counts.{stride_of, chunks_most, plan_total, control_total, plan_at, at}

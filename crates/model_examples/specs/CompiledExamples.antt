@@ -1,6 +1,6 @@
 -- The definitions of compiling, computed on programs that the Rust compiled (oracle/programs.py writes this file from the oracle's answers).
-use Rattle.std.specs.Prelude.{◌≡◌, refl, Bool, true, false, List, [], ◌∷◌, ℕ, pos, negsuc, length, Float}
-use Rattle.std.specs.Float.{nan, inf, fin}
+use Rattle.std.specs.Prelude.{◌≡◌, refl, true, false, List, [], ◌∷◌, ℕ, pos, negsuc, length, Float}
+use Rattle.std.specs.Float.{inf, fin}
 use Rattle.std.specs.Float.Ieee.{lt, eq, mul, div, is_nan}
 use Rattle.number.specs.Number.{max32}
 use Rattle.curve_table.specs.declared.Curve.TheVariants as C

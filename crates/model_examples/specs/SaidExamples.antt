@@ -1,6 +1,6 @@
 -- `said`, worked out on small sessions: at each tick of them it gives the number that the Rust prints (oracle/cases)
 -- and that the tick leaves. Definitions only.
-use Rattle.std.specs.Prelude.{◌≡◌, refl, true, false, List, [], ◌∷◌, ◌++◌, map, ℕ, Float, pos, negsuc, length, set, replicate}
+use Rattle.std.specs.Prelude.{◌≡◌, refl, true, false, List, [], ◌∷◌, ◌++◌, map, ℕ, Float, pos, negsuc, length, replicate}
 use Rattle.std.specs.Float.Ieee.{to_bits, add, sub, mul, div, neg, lt, eq, is_nan, of_int, to_unsigned, le, ne}
 use Rattle.std.specs.Float.{fin, binary32, inf}
 use Rattle.number.specs.Number.{max32, min32, clamp_to, abs_of, hold, finite, half32, zero32, one32}
@@ -23,8 +23,6 @@ use Rattle.voice.specs.Joined.{joined}
 use Rattle.slots_tables.specs.Tables.{slot_names, any_names, names_table}
 use Rattle.list.specs.Rows.{row_at, on_row}
 use Rattle.state.specs.declared.Wiring.{Wiring}
-use Rattle.config.specs.Sizes.{slots}
-use Rattle.slots.specs.Matrix.{new_matrix}
 use Rattle.curve_table.specs.declared.Curve.{Curve}
 use Rattle.state.specs.declared.Kind.{Kind}
 use Rattle.state.specs.declared.Scope.{Scope}
@@ -47,11 +45,11 @@ use Rattle.state.specs.declared.Scope.TheVariants as S
 use Rattle.state.specs.declared.Target.TheVariants as G
 use Rattle.model.specs.Wiring.{verdict, verdicts_from, verdicts, candidates, skipped_of}
 use Rattle.model.specs.Feeds.{in_use, counted_feed, used_dests, feeder_of, readers_of, reads, hears_audio, is_audio}
-use Rattle.model.specs.Feeds.{controls, audios, plan_order, counted_into}
+use Rattle.model.specs.Feeds.{controls, audios, plan_order}
 use Rattle.model.specs.Routes.{slew_for, input_by, route_by, route_in}
 use Rattle.model.specs.Plans.{plan_by, plans_of, all_routes, compiled}
 use Rattle.model.specs.Compile.{empty_of}
-use Rattle.model.specs.Counts.{plan_at, route_at, at}
+use Rattle.model.specs.Counts.{plan_at, route_at}
 use Rattle.model.specs.Env.{sample_in}
 use Rattle.model.specs.Input.{input_in}
 use Rattle.model.specs.Lanes.{in_group, sounding, in_span}
@@ -68,14 +66,13 @@ use Rattle.model.specs.States.{put_globals, put_bases, put_values, put_audio}
 use Rattle.model.specs.Process.{moved_held, glided, draw_voices, draw_routes, rows_of_chunk, chunk_step, chunk_steps}
 use Rattle.model.specs.Process.{process}
 use Rattle.model.specs.Settings.{done_by, fresh_state, set_base, swap_program, set_held, set_voice_held, set_amount}
-use Rattle.model.specs.Settings.{set_output, set_voice_limit, set_draw}
+use Rattle.model.specs.Settings.{set_output, set_voice_limit}
 use Rattle.model.specs.NoteCalls.{note_curve, randoms_set, alternates, note_on, note_off, voice_ended}
 use Rattle.model.specs.Outputs.{from_part, to_part}
-use Rattle.model.specs.Calls.{Call, amount-set, draw-set, voice-ended, swap, Runner, run, base-set, held-set}
-use Rattle.model.specs.Calls.{note-on, kept_of, start_of, block}
-use Rattle.model.specs.Cases.{slot, constant, quarter, over, note}
+use Rattle.model.specs.Calls.{Call, swap, run, base-set, held-set}
+use Rattle.model.specs.Calls.{kept_of, start_of}
+use Rattle.model.specs.Cases.{constant, quarter, over, note}
 use Rattle.model.specs.Claim.{Moment, chunk_ticks, ticks_of, after}
-use Rattle.model.specs.Rule.{slot_route, slots_into, slot_into}
 use Rattle.model.specs.Model.{route_place}
 use Rattle.model.specs.Said.{sends, is_used, source_feeder, amount_feeder, output_feeder, slot_voice, simple_slot}
 use Rattle.model.specs.Said.{group_active, spanned, plain_slot, source_read, input_said, term, offset_sum, plain_sum}

@@ -1,8 +1,8 @@
 -- The definitions of calls on an engine, computed on sessions that the Rust ran (oracle/sessions.py writes this file from the oracle's answers).
-use Rattle.std.specs.Prelude.{◌≡◌, refl, Bool, true, false, List, [], ◌∷◌, map, ℕ, pos, negsuc, length, replicate, Float, ◌+◌, ◌-◌, ◌*◌, ltb, cond, ◌++◌}
+use Rattle.std.specs.Prelude.{◌≡◌, refl, Bool, true, false, List, [], ◌∷◌, map, ℕ, pos, negsuc, length, replicate, Float, ltb, cond, ◌++◌}
 use Rattle.std.specs.Float.{nan, inf, fin, binary32}
 use Rattle.std.specs.Float.Ieee.{lt, le, eq, ne, add, sub, mul, div, is_nan, of_int, to_bits, to_unsigned, neg}
-use Rattle.number.specs.Number.{zero32, half32, one32, abs_of, hold, max32, min32, finite, clamp_to}
+use Rattle.number.specs.Number.{zero32, abs_of, hold, max32, min32, finite, clamp_to}
 use Rattle.curve_table.specs.declared.Curve.TheVariants as C
 use Rattle.curve_table.specs.Curve.{seconds_of}
 use Rattle.slew.specs.Slew.{rate_per_sample}
@@ -11,7 +11,6 @@ use Rattle.refusal.specs.Judge.{judged}
 use Rattle.list.specs.Fill.{fill}
 use Rattle.list.specs.Part.{part, on_part}
 use Rattle.list.specs.Padded.{padded}
-use Rattle.config.specs.Configuration.{config_code}
 use Rattle.voice.specs.Voices.{no_voices, ranks_on, sounded_on, ended_of, newest_after, active_count}
 use Rattle.voice.specs.Marks.{no_marks, marks_on, marks_ended, marks_swapped, marks_cleared}
 use Rattle.voice.specs.Notes.{no_notes, advanced, moving, moved_value, moved_glide, set_note, set_value, set_glide, legato_time, ended_note}
@@ -28,8 +27,6 @@ use Rattle.state.specs.declared.NoteCurve.TheVariants as N
 use Rattle.state.specs.declared.Source.{Source}
 use Rattle.state.specs.declared.Dest.{Dest}
 use Rattle.state.specs.declared.Slot.{Slot}
-use Rattle.state.specs.declared.Signals.{Signals}
-use Rattle.state.specs.declared.State.{State}
 use Rattle.state.specs.declared.Wiring.{Wiring}
 use Rattle.state.specs.Registry.{target_place}
 use Rattle.slots_tables.specs.Tables.{slot_names, any_names, names_table}
@@ -38,8 +35,8 @@ use Rattle.model.specs.Feeds.{in_use, counted_feed, used_dests, feeder_of, reade
 use Rattle.model.specs.Routes.{slew_for, input_by, route_by, route_in}
 use Rattle.model.specs.Plans.{plan_by, plans_of, all_routes, compiled}
 use Rattle.model.specs.Compile.{empty_of}
-use Rattle.model.specs.Counts.{plan_at, route_at, at}
-use Rattle.model.specs.Env.{part_of, sample_in, no_part}
+use Rattle.model.specs.Counts.{plan_at, route_at}
+use Rattle.model.specs.Env.{part_of, sample_in}
 use Rattle.model.specs.Input.{input_in}
 use Rattle.model.specs.Lanes.{in_group, sounding, in_span}
 use Rattle.model.specs.RouteValue.{route_value, plain}
@@ -47,8 +44,8 @@ use Rattle.model.specs.Sums.{offsets, some_plain, all_plain, plains, others, tic
 use Rattle.model.specs.Slews.{source_after, aux_after}
 use Rattle.model.specs.Tick.{fill_from, put_slews, new_to, new_from, turn, turns, tick_of}
 use Rattle.model.specs.Audio.{new_audio, audio_frame, audio_frames, audio_plans, audio_of}
-use Rattle.model.specs.Chunks.{chunk_total, chunk_of, chunk_list}
-use Rattle.model.specs.World.{World, held_by, load_by}
+use Rattle.model.specs.Chunks.{chunk_total, chunk_of}
+use Rattle.model.specs.World.{held_by, load_by}
 use Rattle.model.specs.States.{with_voices, with_marks, with_velocity, with_key, with_gains, with_draw, with_alternate, with_limit, with_phase, with_block, with_primed, with_program, put_state, put_held, put_globals, put_bases, put_values, put_audio}
 use Rattle.model.specs.Process.{moved_held, glided, draw_voices, draw_routes, rows_of_chunk, chunk_step, chunk_steps, process}
 use Rattle.model.specs.Settings.{done_by, fresh_state, set_base, swap_program}
@@ -67,11 +64,10 @@ use Rattle.feed.specs.Numbers.{up_from}
 use Rattle.voice.specs.Voices.{is_sounding}
 use Rattle.voice.specs.Notes.{arrives}
 use Rattle.voice.specs.Notes.{moved as glideMoved}
-use Rattle.model.specs.Counts.{frame_count}
 use Rattle.model.specs.Settings.{set_held, set_voice_held, set_amount, set_output, set_voice_limit}
-use Rattle.model.specs.NoteCalls.{Note, note_curve, randoms_set, alternates, note_on, note_off, voice_ended}
-use Rattle.model.specs.Outputs.{is_audio_plan, is_control_plan, program_dests, audio_start, width_of, from_part, to_part}
-use Rattle.model.specs.Calls.{Call, held-set, voice-held-set, base-set, amount-set, output-set, limit-set, note-on, note-off, voice-ended, swap, block, Kept, Runner, kept_of, start_of, run}
+use Rattle.model.specs.NoteCalls.{note_curve, randoms_set, alternates, note_on, note_off, voice_ended}
+use Rattle.model.specs.Outputs.{is_audio_plan, program_dests, audio_start, from_part, to_part}
+use Rattle.model.specs.Calls.{Call, held-set, voice-held-set, base-set, amount-set, limit-set, note-on, voice-ended, swap, block, Kept, Runner, kept_of, start_of, run}
 
 abbrev source : Kind → Scope → Range → Source
 source k s r = record { key = []; len = 0; kind = k; scope = s; range = r }

@@ -1,5 +1,5 @@
 // The calls of the list, made on the port's matrix.
-use crate::slots::{float, is_bipolar, polarity_of, slot, target, word};
+use crate::listed::{float, is_bipolar, polarity_of, slot, target, word};
 use matrix::Place;
 use state::Matrix;
 

@@ -3,9 +3,9 @@
 #![tactic(auto)]
 
 mod calls;
-mod slots;
+mod listed;
 
-use slots::WIDTH;
+use listed::WIDTH;
 use state::{Matrix, Slot};
 use std::fs;
 use std::fs::File;
@@ -51,25 +51,25 @@ fn with_slot(m: Matrix, n: usize, slot: Slot) -> Matrix {
 
 // the Rust's matrix after the call of a line: a call that is refused, whose word is 256 or above, leaves it
 fn after(theirs: Matrix, line: &[u8]) -> Matrix {
-    if slots::word(line, 0) == 0 {
+    if listed::word(line, 0) == 0 {
         let a = calls::clear();
         return a.matrix;
     }
-    if 256 <= slots::word(line, 10) {
+    if 256 <= listed::word(line, 10) {
         return theirs;
     }
-    with_slot(theirs, slots::word(line, 12) as usize, slots::slot(line))
+    with_slot(theirs, listed::word(line, 12) as usize, listed::slot(line))
 }
 
 fn is_stored(a: calls::Answered, line: &[u8], theirs: Matrix) -> bool {
-    if a.word != slots::word(line, 10) {
+    if a.word != listed::word(line, 10) {
         return false;
     }
-    if !number::are_same(a.value, slots::float(line, 11)) {
+    if !number::are_same(a.value, listed::float(line, 11)) {
         return false;
     }
     let ours = a.matrix;
-    slots::same_matrix(ours, theirs)
+    listed::same_matrix(ours, theirs)
 }
 
 fn show(stdout: Stdout, shown: u64, number: u64, line: &[u8]) {

@@ -4,7 +4,6 @@ use Rattle.config.specs.Sizes.{slots}
 use Rattle.list.proofs.Padded.{padded-none}
 use Rattle.state_filled.specs.Filled.{no_plan, no_route, no_skip, plans_of, routes_of, skips_of}
 use Rattle.model.specs.Compile.{empty_of}
-use borrow.Author.Rules.{rules}
 use Rattle.compile.proofs.empty_of.Goals as goal
 
 pub returns : goal.returns

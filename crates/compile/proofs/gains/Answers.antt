@@ -1,11 +1,7 @@
-use mathlib.Core.Path.{◌≡◌, refl, ◌∙◌}
-use Prim.Native.Nat.{◌-◌, ◌≤◌}
+use mathlib.Core.Path.{refl, ◌∙◌}
 use native.Mathlib.Omega.{arith}
 use borrow.Author.Rules.{rules}
-use lib.Ieee.{Float}
-use lib.ListN.{length, get_or}
-use Rattle.list.proofs.Filled.{Filled, filled_none, filled_more, filled-all}
-use Rattle.config.specs.Sizes.{slots}
+use Rattle.list.proofs.Filled.{filled_none, filled_more, filled-all}
 use Rattle.state.specs.declared.Slot.{Slot}
 use Rattle.model.specs.Routes.{no_slot}
 use Rattle.compile.proofs.Mapped.{fill-map}

@@ -1,15 +1,11 @@
 -- `compile::gains` meets its contract. The loop's invariant: the slots passed are copied.
-use mathlib.Core.Path.{◌≡◌, refl, ◌∙◌}
+use mathlib.Core.Path.{◌≡◌}
 use Prim.Native.Nat.{◌-◌, ◌≤◌}
-use native.Mathlib.Omega.{arith}
-use borrow.Author.Rules.{rules}
 use lib.Ieee.{Float}
 use lib.ListN.{length, get_or}
-use Rattle.list.proofs.Filled.{Filled, filled_none, filled_more, filled-all}
+use Rattle.list.proofs.Filled.{Filled}
 use Rattle.config.specs.Sizes.{slots}
-use Rattle.state.specs.declared.Slot.{Slot}
 use Rattle.model.specs.Routes.{no_slot}
-use Rattle.compile.proofs.Mapped.{fill-map}
 use Rattle.compile.proofs.gains.Given as goal
 
 abbrev pub invariant-loop-n : goal.invariant-loop-n

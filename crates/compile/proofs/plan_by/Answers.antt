@@ -1,5 +1,4 @@
 -- `compile::plan_by` meets its contract.
-use borrow.Author.Rules.{rules}
 use Rattle.model.specs.Plans.{plan_by}
 use Rattle.compile.proofs.plan_by.Goals as goal
 

@@ -1,5 +1,4 @@
 -- `compile::plan_of` meets its contract.
-use borrow.Author.Rules.{rules}
 use Rattle.compile.proofs.plan_of.Goals as goal
 
 pub returns : goal.returns

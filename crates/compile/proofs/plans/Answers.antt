@@ -1,12 +1,9 @@
-use mathlib.Core.Path.{◌≡◌}
-use Prim.Native.Nat.{◌*◌, ◌≤◌, ◌-◌}
 use native.Mathlib.Omega.{arith}
 use borrow.Author.Rules.{rules}
-use lib.ListN.{length, get_or}
-use Rattle.config.specs.Sizes.{slots}
+use lib.ListN.{get_or}
 use Rattle.state_filled.specs.Filled.{candidates_in, readers_in, numbers_in}
 use Rattle.state_filled.proofs.Stored.{stored-from, stored-end}
-use Rattle.compile.proofs.Planned.{Planned, planned-none, planned-more, planned-all}
+use Rattle.compile.proofs.Planned.{planned-none, planned-more, planned-all}
 use Rattle.compile.proofs.plans.Goals as goal
 
 pub loop-k-init : goal.loop-k-init

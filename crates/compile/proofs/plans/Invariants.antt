@@ -1,13 +1,10 @@
 -- `compile::plans` meets its contract. The loop's invariant: the plans of the first k of the order stand there, and their routes end before `first`.
 use mathlib.Core.Path.{◌≡◌}
 use Prim.Native.Nat.{◌*◌, ◌≤◌, ◌-◌}
-use native.Mathlib.Omega.{arith}
-use borrow.Author.Rules.{rules}
-use lib.ListN.{length, get_or}
+use lib.ListN.{length}
 use Rattle.config.specs.Sizes.{slots}
 use Rattle.state_filled.specs.Filled.{candidates_in, readers_in, numbers_in}
-use Rattle.state_filled.proofs.Stored.{stored-from, stored-end}
-use Rattle.compile.proofs.Planned.{Planned, planned-none, planned-more, planned-all}
+use Rattle.compile.proofs.Planned.{Planned}
 use Rattle.compile.proofs.plans.Given as goal
 
 abbrev pub invariant-loop-k : goal.invariant-loop-k

@@ -1,12 +1,11 @@
 use mathlib.Core.Path.{◌≡◌}
-use Prim.Native.Nat.{◌≤◌, ◌-◌}
 use native.Mathlib.Omega.{arith}
 use borrow.Author.Rules.{rules}
 use lib.ListN.{length, get_or}
 use Rattle.config.specs.Sizes.{slots}
 use Rattle.state_filled.specs.Filled.{readers_in, numbers_in}
 use Rattle.state_filled.proofs.Stored.{stored-from, stored-end}
-use Rattle.compile.proofs.Planned.{Routed, routed-more, routed-all}
+use Rattle.compile.proofs.Planned.{routed-more, routed-all}
 use Rattle.compile.proofs.routes.Goals as goal
 
 pub loop-k-init : goal.loop-k-init

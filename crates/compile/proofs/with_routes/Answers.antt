@@ -1,5 +1,4 @@
 -- `compile::with_routes` meets its contract.
-use borrow.Author.Rules.{rules}
 use Rattle.compile.proofs.with_routes.Goals as goal
 
 pub returns : goal.returns

@@ -3,7 +3,6 @@ use mathlib.Core.Path.{◌∙◌}
 use native.Mathlib.Numerals.{unary_clauses}
 use lib.Ieee.{of_bits}
 use Rattle.model.specs.Compile.{zeroed}
-use borrow.Author.Rules.{rules}
 use Rattle.compile.proofs.zero.Goals as goal
 
 pub returns : goal.returns

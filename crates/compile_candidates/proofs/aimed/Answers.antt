@@ -1,5 +1,4 @@
 -- `compile_candidates::aimed` meets its contract.
-use borrow.Author.Rules.{rules}
 use Rattle.compile_candidates.proofs.aimed.Goals as goal
 
 pub returns-then-bypass : goal.returns-then-bypass

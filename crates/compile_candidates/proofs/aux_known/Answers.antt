@@ -1,5 +1,4 @@
 -- `compile_candidates::aux_known` meets its contract.
-use borrow.Author.Rules.{rules}
 use Rattle.compile_candidates.proofs.aux_known.Goals as goal
 
 pub returns-in-Source : goal.returns-in-Source

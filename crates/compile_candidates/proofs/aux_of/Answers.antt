@@ -1,6 +1,5 @@
 -- `compile_candidates::aux_of` meets its contract: a known source's number is below 256.
 use Rattle.compile_candidates.proofs.Bytes.{known-byte}
-use borrow.Author.Rules.{rules}
 use Rattle.compile_candidates.proofs.aux_of.Goals as goal
 
 pub returns-in-Nothing : goal.returns-in-Nothing

@@ -1,18 +1,10 @@
 -- `compile_candidates::candidates` meets its contract. The loop's invariant: `out` has those of the first i verdicts.
-use mathlib.Core.Path.{◌≡◌, ap, ◌∙◌}
-use mathlib.Core.List.{List}
+use mathlib.Core.Path.{◌≡◌}
 use Prim.Native.Nat.{◌≤◌, ◌-◌}
-use native.Mathlib.Omega.{arith}
-use borrow.Author.Rules.{rules}
-use lib.ListN.{length, get_or, take}
+use lib.ListN.{take}
 use Rattle.config.specs.Sizes.{slots}
-use Rattle.state.specs.declared.Verdict.{Verdict}
-use Rattle.state.specs.declared.Verdict.TheVariants.{Over}
-use Rattle.state_filled.specs.declared.Candidates.{Candidates}
 use Rattle.state_filled.specs.Filled.{candidates_of}
 use Rattle.model.specs.Wiring.{taken_of}
-use Rattle.compile_candidates.specs.Added.{candidate_added}
-use Rattle.compile_candidates.proofs.Turns.{candidates-next, whole}
 use Rattle.compile_candidates.proofs.candidates.Given as goal
 
 abbrev pub invariant-loop-i : goal.invariant-loop-i

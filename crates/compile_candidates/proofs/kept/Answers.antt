@@ -2,7 +2,6 @@
 use mathlib.Core.Path.{ap}
 use native.Mathlib.Nat.{mod-eq_of_lt}
 use Rattle.state.specs.declared.AuxSource.TheVariants as X
-use borrow.Author.Rules.{rules}
 use Rattle.compile_candidates.proofs.kept.Goals as goal
 
 pub returns : goal.returns

@@ -1,6 +1,5 @@
 -- `compile_candidates::verdict` meets its contract.
 use Rattle.model.specs.Wiring.{verdict}
-use borrow.Author.Rules.{rules}
 use Rattle.compile_candidates.proofs.verdict.Goals as goal
 
 pub returns-in-Nothing : goal.returns-in-Nothing

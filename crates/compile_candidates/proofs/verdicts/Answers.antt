@@ -1,10 +1,9 @@
 use mathlib.Core.Path.{◌≡◌, refl}
-use Prim.Native.Nat.{◌≤◌, ◌-◌}
 use native.Mathlib.Omega.{arith}
 use borrow.Author.Rules.{rules}
 use lib.ListN.{length}
 use Rattle.config.specs.Sizes.{slots}
-use Rattle.compile_candidates.proofs.Turns.{Judged, judged-none, judged-more, judged-all}
+use Rattle.compile_candidates.proofs.Turns.{judged-none, judged-more, judged-all}
 use Rattle.compile_candidates.proofs.verdicts.Goals as goal
 
 pub loop-n-init : goal.loop-n-init

@@ -1,11 +1,7 @@
 -- `compile_candidates::verdicts` meets its contract. The loop's invariant: the first n places have the verdicts of the first n slots.
-use mathlib.Core.Path.{◌≡◌, refl}
 use Prim.Native.Nat.{◌≤◌, ◌-◌}
-use native.Mathlib.Omega.{arith}
-use borrow.Author.Rules.{rules}
-use lib.ListN.{length}
 use Rattle.config.specs.Sizes.{slots}
-use Rattle.compile_candidates.proofs.Turns.{Judged, judged-none, judged-more, judged-all}
+use Rattle.compile_candidates.proofs.Turns.{Judged}
 use Rattle.compile_candidates.proofs.verdicts.Given as goal
 
 abbrev pub invariant-loop-n : goal.invariant-loop-n

@@ -1,5 +1,4 @@
 -- `compile_candidates::with_candidate` meets its contract.
-use borrow.Author.Rules.{rules}
 use Rattle.compile_candidates.proofs.with_candidate.Goals as goal
 
 pub returns-in-Taken : goal.returns-in-Taken

@@ -1,5 +1,4 @@
 -- `compile_candidates::with_skipped` meets its contract.
-use borrow.Author.Rules.{rules}
 use Rattle.compile_candidates.proofs.with_skipped.Goals as goal
 
 pub returns-in-LeftOut : goal.returns-in-LeftOut

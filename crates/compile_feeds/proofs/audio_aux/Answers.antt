@@ -1,5 +1,4 @@
 -- `compile_feeds::audio_aux` meets its contract.
-use borrow.Author.Rules.{rules}
 use Rattle.compile_feeds.proofs.audio_aux.Goals as goal
 
 pub returns-in-Source : goal.returns-in-Source

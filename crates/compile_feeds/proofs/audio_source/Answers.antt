@@ -1,5 +1,4 @@
 -- `compile_feeds::audio_source` meets its contract.
-use borrow.Author.Rules.{rules}
 use Rattle.compile_feeds.proofs.audio_source.Goals as goal
 
 pub returns : goal.returns

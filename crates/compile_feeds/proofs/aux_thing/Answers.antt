@@ -1,5 +1,4 @@
 -- `compile_feeds::aux_thing` meets its contract.
-use borrow.Author.Rules.{rules}
 use Rattle.compile_feeds.proofs.aux_thing.Goals as goal
 
 pub returns-in-Source : goal.returns-in-Source

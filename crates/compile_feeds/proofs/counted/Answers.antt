@@ -1,5 +1,4 @@
 -- `compile_feeds::counted` meets its contract.
-use borrow.Author.Rules.{rules}
 use Rattle.compile_feeds.proofs.counted.Goals as goal
 
 pub returns-in-Source : goal.returns-in-Source

@@ -1,6 +1,5 @@
 -- `compile_feeds::counted_output` meets its contract.
 use borrow.Author.Tests.{lt-ltb, le-ltb}
-use borrow.Author.Rules.{rules}
 use Rattle.compile_feeds.proofs.counted_output.Goals as goal
 
 pub returns-then-n-lt-SLOTS : goal.returns-then-n-lt-SLOTS

@@ -1,6 +1,5 @@
 -- `compile_feeds::feeds` meets its contract.
 use mathlib.Core.Path.{sym, ◌∙◌}
-use borrow.Author.Rules.{rules}
 use Rattle.compile_feeds.proofs.feeds.Goals as goal
 
 pub returns-then-same_thing : goal.returns-then-same_thing

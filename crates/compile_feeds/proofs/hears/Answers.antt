@@ -1,7 +1,6 @@
 -- `compile_feeds::hears` meets its contract.
 use mathlib.Core.Path.{sym, ◌∙◌}
 use borrow.Author.Tests.{eq-eqb, ne_eqb}
-use borrow.Author.Rules.{rules}
 use Rattle.compile_feeds.proofs.hears.Goals as goal
 
 pub returns-then-c-d : goal.returns-then-c-d

@@ -1,12 +1,6 @@
 -- `compile_feeds::hears_audio` meets its contract. The loop's invariant: the first i candidates hear none. The measure is what is left of them.
-use mathlib.Core.Path.{◌≡◌, sym, ◌∙◌}
 use Prim.Native.Nat.{◌≤◌, ◌-◌}
-use native.Mathlib.Omega.{arith}
-use borrow.Author.Rules.{rules}
-use lib.ListN.{length}
-use Rattle.list.proofs.Elements.{length-mapped}
-use Rattle.config.specs.Sizes.{slots}
-use Rattle.compile_feeds.proofs.Heard.{Unheard, unheard-none, heard-here, unheard-next, unheard-all}
+use Rattle.compile_feeds.proofs.Heard.{Unheard}
 use Rattle.compile_feeds.proofs.hears_audio.Given as goal
 
 abbrev pub invariant-loop-i : goal.invariant-loop-i

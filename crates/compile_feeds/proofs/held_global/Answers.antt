@@ -1,7 +1,5 @@
 -- `compile_feeds::held_global` meets its contract.
 use mathlib.Core.Path.{sym, ◌∙◌}
-use borrow.Author.Tests.{not-true, not-false}
-use borrow.Author.Rules.{rules}
 use Rattle.compile_feeds.proofs.held_global.Goals as goal
 
 pub returns-then-not-is_held : goal.returns-then-not-is_held

@@ -1,5 +1,4 @@
 -- `compile_feeds::is_audio` meets its contract.
-use borrow.Author.Rules.{rules}
 use Rattle.compile_feeds.proofs.is_audio.Goals as goal
 
 pub returns : goal.returns

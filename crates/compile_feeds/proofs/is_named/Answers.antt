@@ -1,11 +1,10 @@
 use mathlib.Core.Path.{◌≡◌, sym}
-use Prim.Native.Nat.{◌≤◌, ◌-◌}
 use native.Mathlib.Omega.{arith}
 use borrow.Author.Rules.{rules}
 use lib.ListN.{length}
 use Rattle.list.proofs.Elements.{length-mapped}
 use Rattle.config.specs.Sizes.{slots}
-use Rattle.compile_feeds.proofs.Named.{Unnamed, unnamed-none, named_here, unnamed-next, unnamed-all}
+use Rattle.compile_feeds.proofs.Named.{unnamed-none, named_here, unnamed-next, unnamed-all}
 use Rattle.compile_feeds.proofs.is_named.Goals as goal
 
 pub loop-i-init : goal.loop-i-init

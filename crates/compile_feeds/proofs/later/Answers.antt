@@ -1,5 +1,4 @@
 -- `compile_feeds::later` meets its contract.
-use borrow.Author.Rules.{rules}
 use Rattle.compile_feeds.proofs.Things.{last-feeds}
 use Rattle.compile_feeds.proofs.later.Goals as goal
 

@@ -1,5 +1,4 @@
 -- `compile_feeds::reader` meets its contract.
-use borrow.Author.Rules.{rules}
 use Rattle.compile_feeds.proofs.reader.Goals as goal
 
 pub returns : goal.returns

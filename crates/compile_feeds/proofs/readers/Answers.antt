@@ -1,13 +1,10 @@
 use mathlib.Core.Path.{◌≡◌}
-use Prim.Native.Nat.{◌≤◌, ◌-◌}
 use native.Mathlib.Omega.{arith}
 use borrow.Author.Rules.{rules}
 use lib.ListN.{length}
 use Rattle.list.proofs.Elements.{length-mapped}
 use Rattle.config.specs.Sizes.{slots}
-use Rattle.state_filled.specs.Filled.{used_dests_in}
-use Rattle.model.specs.Feeds.{reader_by, feeder_in}
-use Rattle.compile_feeds.proofs.Reading.{Read, read_next, read_all}
+use Rattle.compile_feeds.proofs.Reading.{read_next, read_all}
 use Rattle.compile_feeds.proofs.readers.Goals as goal
 
 pub loop-i-init : goal.loop-i-init

@@ -1,14 +1,8 @@
 -- `compile_feeds::readers` meets its contract. The loop's invariant: `out` holds the readers of the first i candidates. The measure is what is left of them.
-use mathlib.Core.Path.{◌≡◌}
 use Prim.Native.Nat.{◌≤◌, ◌-◌}
-use native.Mathlib.Omega.{arith}
-use borrow.Author.Rules.{rules}
-use lib.ListN.{length}
-use Rattle.list.proofs.Elements.{length-mapped}
-use Rattle.config.specs.Sizes.{slots}
 use Rattle.state_filled.specs.Filled.{used_dests_in}
 use Rattle.model.specs.Feeds.{reader_by, feeder_in}
-use Rattle.compile_feeds.proofs.Reading.{Read, read_next, read_all}
+use Rattle.compile_feeds.proofs.Reading.{Read}
 use Rattle.compile_feeds.proofs.readers.Given as goal
 
 abbrev pub invariant-loop-i : goal.invariant-loop-i

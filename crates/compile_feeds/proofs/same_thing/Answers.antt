@@ -1,6 +1,5 @@
 -- `compile_feeds::same_thing` meets its contract.
 use mathlib.Core.Path.{sym, ap, ◌∙◌}
-use borrow.Author.Rules.{rules}
 use Rattle.state.specs.declared.Base.{Base}
 use Rattle.model.specs.Feeds.{same_thing}
 use Rattle.compile_feeds.proofs.Things.{set-is-none}

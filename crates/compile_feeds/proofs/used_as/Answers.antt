@@ -1,5 +1,4 @@
 -- `compile_feeds::used_as` meets its contract.
-use borrow.Author.Rules.{rules}
 use Rattle.compile_feeds.proofs.used_as.Goals as goal
 
 pub returns : goal.returns

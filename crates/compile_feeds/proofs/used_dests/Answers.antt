@@ -1,5 +1,4 @@
 use mathlib.Core.Path.{◌≡◌}
-use Prim.Native.Nat.{◌≤◌, ◌-◌}
 use native.Mathlib.Omega.{arith}
 use borrow.Author.Rules.{rules}
 use lib.ListN.{length}
@@ -7,7 +6,7 @@ use Rattle.list.proofs.Elements.{length-mapped}
 use Rattle.config.specs.Sizes.{slots}
 use Rattle.state.specs.Registry.{dest_count}
 use Rattle.state_filled.specs.Filled.{candidates_in}
-use Rattle.compile_feeds.proofs.Using.{Using, using-next, using-all, candidates-most}
+use Rattle.compile_feeds.proofs.Using.{using-next, using-all, candidates-most}
 use Rattle.compile_feeds.proofs.used_dests.Goals as goal
 
 pub loop-d-init : goal.loop-d-init

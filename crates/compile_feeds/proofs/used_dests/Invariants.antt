@@ -1,15 +1,8 @@
 -- `compile_feeds::used_dests` meets its contract. The loop's invariant: `out` holds those in use below d, for which there is room, since each candidate names
 -- one. The measure is what is left of the registered entries.
-use mathlib.Core.Path.{◌≡◌}
 use Prim.Native.Nat.{◌≤◌, ◌-◌}
-use native.Mathlib.Omega.{arith}
-use borrow.Author.Rules.{rules}
-use lib.ListN.{length}
-use Rattle.list.proofs.Elements.{length-mapped}
-use Rattle.config.specs.Sizes.{slots}
-use Rattle.state.specs.Registry.{dest_count}
 use Rattle.state_filled.specs.Filled.{candidates_in}
-use Rattle.compile_feeds.proofs.Using.{Using, using-next, using-all, candidates-most}
+use Rattle.compile_feeds.proofs.Using.{Using}
 use Rattle.compile_feeds.proofs.used_dests.Given as goal
 
 abbrev pub invariant-loop-d : goal.invariant-loop-d

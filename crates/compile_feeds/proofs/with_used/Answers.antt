@@ -1,7 +1,5 @@
 -- `compile_feeds::with_used` meets its contract.
 use mathlib.Core.Path.{sym, ◌∙◌}
-use borrow.Author.Tests.{not-true, not-false}
-use borrow.Author.Rules.{rules}
 use Rattle.compile_feeds.specs.Added.{used_added}
 use Rattle.compile_feeds.proofs.with_used.Goals as goal
 

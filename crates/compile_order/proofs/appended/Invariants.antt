@@ -1,15 +1,10 @@
 -- `compile_order::appended` meets its contract. The loop's invariant: with those from i on put behind it, `out` is the whole.
 -- The measure is what is left to put behind.
-use mathlib.Core.Path.{◌≡◌, refl, ap, ◌∙◌}
-use Prim.Native.Nat.{◌+◌, ◌≤◌, ◌-◌}
-use native.Mathlib.Omega.{arith}
-use borrow.Author.Rules.{rules}
-use lib.ListN.{length, drop}
-use Rattle.config.specs.Sizes.{slots}
-use Rattle.state_filled.specs.declared.Numbers.{Numbers}
+use mathlib.Core.Path.{◌≡◌}
+use Prim.Native.Nat.{◌≤◌, ◌-◌}
+use lib.ListN.{drop}
 use Rattle.state_filled.specs.Filled.{numbers_in}
 use Rattle.compile_order.specs.Marks.{numbers_added}
-use Rattle.compile_order.proofs.Lists.{added-turn, added-end}
 use Rattle.compile_order.proofs.appended.Given as goal
 
 abbrev pub invariant-loop-i : goal.invariant-loop-i

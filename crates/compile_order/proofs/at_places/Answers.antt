@@ -1,11 +1,9 @@
 use mathlib.Core.Path.{◌≡◌, ap, ◌∙◌}
-use mathlib.Core.List.{map}
-use Prim.Native.Nat.{◌≤◌, ◌-◌}
 use native.Mathlib.Omega.{arith}
 use borrow.Author.Rules.{rules}
-use lib.ListN.{length, get_or, take}
+use lib.ListN.{length, get_or}
 use Rattle.config.specs.Sizes.{slots}
-use Rattle.state_filled.specs.Filled.{numbers_of, with_number}
+use Rattle.state_filled.specs.Filled.{with_number}
 use Rattle.compile_order.proofs.Lists.{placed-turn, placed_end}
 use Rattle.compile_order.proofs.at_places.Goals as goal
 

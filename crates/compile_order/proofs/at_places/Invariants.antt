@@ -1,14 +1,10 @@
 -- `compile_order::at_places` meets its contract. The loop's invariant: `out` holds what stands at the first k places.
 -- The measure is what is left of the places.
-use mathlib.Core.Path.{◌≡◌, ap, ◌∙◌}
+use mathlib.Core.Path.{◌≡◌}
 use mathlib.Core.List.{map}
 use Prim.Native.Nat.{◌≤◌, ◌-◌}
-use native.Mathlib.Omega.{arith}
-use borrow.Author.Rules.{rules}
-use lib.ListN.{length, get_or, take}
-use Rattle.config.specs.Sizes.{slots}
-use Rattle.state_filled.specs.Filled.{numbers_of, with_number}
-use Rattle.compile_order.proofs.Lists.{placed-turn, placed_end}
+use lib.ListN.{get_or, take}
+use Rattle.state_filled.specs.Filled.{numbers_of}
 use Rattle.compile_order.proofs.at_places.Given as goal
 
 abbrev pub invariant-loop-k : goal.invariant-loop-k

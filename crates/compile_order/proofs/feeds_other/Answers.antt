@@ -1,6 +1,5 @@
 -- `compile_order::feeds_other` meets its contract.
 use borrow.Author.Tests.{eq-eqb, ne_eqb}
-use borrow.Author.Rules.{rules}
 use Rattle.compile_order.proofs.feeds_other.Goals as goal
 
 pub returns-then-a-b : goal.returns-then-a-b

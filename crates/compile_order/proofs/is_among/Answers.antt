@@ -1,6 +1,5 @@
 -- `compile_order::is_among` meets its contract.
 use mathlib.Core.Path.{sym, ◌∙◌}
-use borrow.Author.Rules.{rules}
 use Rattle.compile_order.proofs.is_among.Goals as goal
 
 pub returns-then-is_it : goal.returns-then-is_it

@@ -1,5 +1,4 @@
 -- `compile_order::is_it` meets its contract.
-use borrow.Author.Rules.{rules}
 use Rattle.compile_order.proofs.is_it.Goals as goal
 
 pub returns-in-Dest : goal.returns-in-Dest

@@ -1,12 +1,9 @@
 use mathlib.Core.Path.{◌≡◌, refl, sym, ◌∙◌}
-use Prim.Native.Nat.{◌≤◌, ◌-◌}
 use native.Mathlib.Omega.{arith}
 use borrow.Author.Rules.{rules}
-use lib.ListN.{length, drop}
+use lib.ListN.{length}
 use Rattle.list.proofs.Elements.{length-mapped}
 use Rattle.config.specs.Sizes.{slots}
-use Rattle.state_filled.specs.Filled.{readers_in}
-use Rattle.model.specs.Feeds.{any_reads}
 use Rattle.compile_order.proofs.Looking.{read_here, read-later, read_none}
 use Rattle.compile_order.proofs.is_read.Goals as goal
 

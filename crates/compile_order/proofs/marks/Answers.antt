@@ -1,12 +1,6 @@
-use mathlib.Core.Bool.{false}
-use Prim.Native.Nat.{◌≤◌, ◌-◌}
 use native.Mathlib.Omega.{arith}
 use borrow.Author.Rules.{rules}
-use lib.ListN.{replicate}
-use Rattle.list.proofs.Filled.{Filled, filled_none, filled_more, filled-all}
-use Rattle.feed.specs.Marks.{pairs}
-use Rattle.state_filled.specs.Filled.{readers_in, numbers_in}
-use Rattle.compile_order.specs.Marks.{mark_at}
+use Rattle.list.proofs.Filled.{filled_none, filled_more, filled-all}
 use Rattle.compile_order.proofs.marks.Goals as goal
 
 pub loop-p-init : goal.loop-p-init

@@ -2,10 +2,8 @@
 -- The measure is what is left of the pairs.
 use mathlib.Core.Bool.{false}
 use Prim.Native.Nat.{◌≤◌, ◌-◌}
-use native.Mathlib.Omega.{arith}
-use borrow.Author.Rules.{rules}
 use lib.ListN.{replicate}
-use Rattle.list.proofs.Filled.{Filled, filled_none, filled_more, filled-all}
+use Rattle.list.proofs.Filled.{Filled}
 use Rattle.feed.specs.Marks.{pairs}
 use Rattle.state_filled.specs.Filled.{readers_in, numbers_in}
 use Rattle.compile_order.specs.Marks.{mark_at}

@@ -1,12 +1,9 @@
 use mathlib.Core.Path.{◌≡◌, ◌∙◌}
-use Prim.Native.Nat.{◌≤◌, ◌-◌}
 use native.Mathlib.Omega.{arith}
 use borrow.Author.Rules.{rules}
-use lib.ListN.{length, take}
+use lib.ListN.{length}
 use Rattle.list.proofs.Elements.{length-mapped}
 use Rattle.config.specs.Sizes.{slots}
-use Rattle.state_filled.specs.Filled.{used_dests_in, numbers_of}
-use Rattle.compile_order.specs.Marks.{rated_as}
 use Rattle.compile_order.proofs.Lists.{rated-turn, rated-end}
 use Rattle.compile_order.proofs.rated.Goals as goal
 

@@ -1,15 +1,10 @@
 -- `compile_order::rated` meets its contract. The loop's invariant: `out` holds the numbers of that rate of the first i in use.
 -- The measure is what is left of those in use.
-use mathlib.Core.Path.{◌≡◌, ◌∙◌}
+use mathlib.Core.Path.{◌≡◌}
 use Prim.Native.Nat.{◌≤◌, ◌-◌}
-use native.Mathlib.Omega.{arith}
-use borrow.Author.Rules.{rules}
-use lib.ListN.{length, take}
-use Rattle.list.proofs.Elements.{length-mapped}
-use Rattle.config.specs.Sizes.{slots}
+use lib.ListN.{take}
 use Rattle.state_filled.specs.Filled.{used_dests_in, numbers_of}
 use Rattle.compile_order.specs.Marks.{rated_as}
-use Rattle.compile_order.proofs.Lists.{rated-turn, rated-end}
 use Rattle.compile_order.proofs.rated.Given as goal
 
 abbrev pub invariant-loop-i : goal.invariant-loop-i

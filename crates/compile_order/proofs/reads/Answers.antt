@@ -1,5 +1,4 @@
 -- `compile_order::reads` meets its contract.
-use borrow.Author.Rules.{rules}
 use borrow.Author.Tests.{eq-eqb, ne_eqb}
 use Rattle.compile_order.proofs.reads.Goals as goal
 

@@ -1,7 +1,5 @@
 -- `compile_order::with_rated` meets its contract.
 use mathlib.Core.Path.{sym, ◌∙◌}
-use borrow.Author.Tests.{not-true, not-false}
-use borrow.Author.Rules.{rules}
 use Rattle.compile_order.specs.Marks.{rated_added}
 use Rattle.compile_order.proofs.with_rated.Goals as goal
 

@@ -1,5 +1,4 @@
 -- `compile_routes::aux_input` meets its contract.
-use borrow.Author.Rules.{rules}
 use Rattle.compile_routes.proofs.aux_input.Goals as goal
 
 pub returns-in-Source : goal.returns-in-Source

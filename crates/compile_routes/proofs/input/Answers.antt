@@ -1,5 +1,4 @@
 -- `compile_routes::input` meets its contract.
-use borrow.Author.Rules.{rules}
 use Rattle.model.specs.Routes.{input_by}
 use Rattle.compile_routes.proofs.input.Goals as goal
 

@@ -1,5 +1,4 @@
 -- `compile_routes::link` meets its contract.
-use borrow.Author.Rules.{rules}
 use Rattle.compile_routes.proofs.link.Goals as goal
 
 pub returns-in-Dest : goal.returns-in-Dest

@@ -1,5 +1,4 @@
 -- `compile_routes::no_slot` meets its contract.
-use borrow.Author.Rules.{rules}
 use Rattle.compile_routes.proofs.no_slot.Goals as goal
 
 pub returns : goal.returns

@@ -1,11 +1,10 @@
 use mathlib.Core.Path.{◌≡◌, sym}
-use Prim.Native.Nat.{◌≤◌, ◌-◌}
 use native.Mathlib.Omega.{arith}
 use borrow.Author.Rules.{rules}
 use lib.ListN.{length}
 use Rattle.list.proofs.Elements.{length-mapped}
 use Rattle.config.specs.Sizes.{slots}
-use Rattle.compile_routes.proofs.Find.{Passed, passed_none, passed_here, passed-next, passed-all}
+use Rattle.compile_routes.proofs.Find.{passed_none, passed_here, passed-next, passed-all}
 use Rattle.compile_routes.proofs.place.Goals as goal
 
 pub loop-i-init : goal.loop-i-init

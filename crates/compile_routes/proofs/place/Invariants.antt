@@ -1,12 +1,6 @@
 -- `compile_routes::place` meets its contract. The loop's invariant: d is none of the first i. The measure is what is left of the numbers.
-use mathlib.Core.Path.{◌≡◌, sym}
 use Prim.Native.Nat.{◌≤◌, ◌-◌}
-use native.Mathlib.Omega.{arith}
-use borrow.Author.Rules.{rules}
-use lib.ListN.{length}
-use Rattle.list.proofs.Elements.{length-mapped}
-use Rattle.config.specs.Sizes.{slots}
-use Rattle.compile_routes.proofs.Find.{Passed, passed_none, passed_here, passed-next, passed-all}
+use Rattle.compile_routes.proofs.Find.{Passed}
 use Rattle.compile_routes.proofs.place.Given as goal
 
 abbrev pub invariant-loop-i : goal.invariant-loop-i

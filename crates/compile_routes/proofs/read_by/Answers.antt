@@ -1,5 +1,4 @@
 -- `compile_routes::read_by` meets its contract.
-use borrow.Author.Rules.{rules}
 use Rattle.compile_routes.proofs.read_by.Goals as goal
 
 pub returns-in-Live : goal.returns-in-Live

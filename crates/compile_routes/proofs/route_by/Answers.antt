@@ -1,5 +1,4 @@
 -- `compile_routes::route_by` meets its contract.
-use borrow.Author.Rules.{rules}
 use Rattle.model.specs.Routes.{route_by}
 use Rattle.compile_routes.proofs.route_by.Goals as goal
 

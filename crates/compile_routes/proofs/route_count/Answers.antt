@@ -1,12 +1,11 @@
 use mathlib.Core.Path.{◌≡◌}
-use Prim.Native.Nat.{◌≤◌, ◌-◌, ◌+◌}
 use native.Mathlib.Omega.{arith}
 use borrow.Author.Rules.{rules}
-use lib.ListN.{length, drop}
+use lib.ListN.{length}
 use Rattle.list.proofs.Elements.{length-mapped}
 use Rattle.config.specs.Sizes.{slots}
-use Rattle.state_filled.specs.Filled.{no_reader, readers_in}
-use Rattle.compile_routes.proofs.Turns.{many, many-next, many-all}
+use Rattle.state_filled.specs.Filled.{no_reader}
+use Rattle.compile_routes.proofs.Turns.{many-next, many-all}
 use Rattle.compile_routes.proofs.route_count.Goals as goal
 
 pub loop-i-init : goal.loop-i-init

@@ -1,13 +1,9 @@
 -- `compile_routes::route_count` meets its contract. The loop's invariant: those counted and those left are all. The measure is what is left of the readers.
 use mathlib.Core.Path.{◌≡◌}
 use Prim.Native.Nat.{◌≤◌, ◌-◌, ◌+◌}
-use native.Mathlib.Omega.{arith}
-use borrow.Author.Rules.{rules}
-use lib.ListN.{length, drop}
-use Rattle.list.proofs.Elements.{length-mapped}
-use Rattle.config.specs.Sizes.{slots}
-use Rattle.state_filled.specs.Filled.{no_reader, readers_in}
-use Rattle.compile_routes.proofs.Turns.{many, many-next, many-all}
+use lib.ListN.{drop}
+use Rattle.state_filled.specs.Filled.{readers_in}
+use Rattle.compile_routes.proofs.Turns.{many}
 use Rattle.compile_routes.proofs.route_count.Given as goal
 
 abbrev pub invariant-loop-i : goal.invariant-loop-i

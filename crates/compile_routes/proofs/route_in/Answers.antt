@@ -1,5 +1,4 @@
 -- `compile_routes::route_in` meets its contract: part by part.
-use borrow.Author.Rules.{rules}
 use Rattle.compile_routes.proofs.Parts.{route-parts}
 use Rattle.compile_routes.proofs.route_in.Goals as goal
 

@@ -1,5 +1,4 @@
 -- `compile_routes::slew_for` meets its contract.
-use borrow.Author.Rules.{rules}
 use lib.Ieee.{of_bits}
 use Rattle.slew.specs.Slew.{rate_per_sample}
 use Rattle.model.specs.Routes.{slew_for}

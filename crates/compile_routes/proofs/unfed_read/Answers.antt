@@ -1,5 +1,4 @@
 -- `compile_routes::unfed_read` meets its contract: one equation a variant.
-use borrow.Author.Rules.{rules}
 use Rattle.compile_routes.proofs.unfed_read.Goals as goal
 
 pub returns-in-Signal : goal.returns-in-Signal

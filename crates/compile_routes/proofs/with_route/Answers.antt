@@ -1,6 +1,5 @@
 -- `compile_routes::with_route` meets its contract.
 use borrow.Author.Tests.{eq-eqb, ne_eqb}
-use borrow.Author.Rules.{rules}
 use Rattle.compile_routes.specs.Added.{route_added}
 use Rattle.compile_routes.proofs.with_route.Goals as goal
 

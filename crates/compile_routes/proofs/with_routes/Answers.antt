@@ -1,12 +1,11 @@
 use mathlib.Core.Path.{◌≡◌, refl}
-use Prim.Native.Nat.{◌≤◌, ◌-◌}
 use native.Mathlib.Omega.{arith}
 use borrow.Author.Rules.{rules}
-use lib.ListN.{length, drop}
+use lib.ListN.{length}
 use Rattle.list.proofs.Elements.{length-mapped}
 use Rattle.config.specs.Sizes.{slots}
-use Rattle.state_filled.specs.Filled.{numbers_in, readers_in}
-use Rattle.compile_routes.proofs.Turns.{laid, laid_next, laid-all}
+use Rattle.state_filled.specs.Filled.{numbers_in}
+use Rattle.compile_routes.proofs.Turns.{laid_next, laid-all}
 use Rattle.compile_routes.proofs.with_routes.Goals as goal
 
 pub loop-i-init : goal.loop-i-init

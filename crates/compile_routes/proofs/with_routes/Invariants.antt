@@ -1,13 +1,9 @@
 -- `compile_routes::with_routes` meets its contract. The loop's invariant: the routes so far and then those of the readers left are those of all. The measure is what is left of the readers.
-use mathlib.Core.Path.{◌≡◌, refl}
+use mathlib.Core.Path.{◌≡◌}
 use Prim.Native.Nat.{◌≤◌, ◌-◌}
-use native.Mathlib.Omega.{arith}
-use borrow.Author.Rules.{rules}
-use lib.ListN.{length, drop}
-use Rattle.list.proofs.Elements.{length-mapped}
-use Rattle.config.specs.Sizes.{slots}
+use lib.ListN.{drop}
 use Rattle.state_filled.specs.Filled.{numbers_in, readers_in}
-use Rattle.compile_routes.proofs.Turns.{laid, laid_next, laid-all}
+use Rattle.compile_routes.proofs.Turns.{laid}
 use Rattle.compile_routes.proofs.with_routes.Given as goal
 
 abbrev pub invariant-loop-i : goal.invariant-loop-i

@@ -1,6 +1,5 @@
 -- `engine_notes::alternate_by` meets its contract.
 use borrow.Author.Tests.{eq-eqb, ne_eqb}
-use borrow.Author.Rules.{rules}
 use Rattle.engine_notes.proofs.alternate_by.Goals as goal
 
 pub returns-then-kind-eq-INVERSE : goal.returns-then-kind-eq-INVERSE

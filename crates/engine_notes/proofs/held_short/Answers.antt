@@ -1,7 +1,6 @@
 -- `engine_notes::held_short` meets its contract.
 use Prim.Native.Nat.{◌≤◌}
 use native.Mathlib.Omega.{arith}
-use borrow.Author.Rules.{rules}
 use Rattle.engine_notes.proofs.Steps.{product-bound}
 use Rattle.engine_notes.proofs.held_short.Goals as goal
 

@@ -1,6 +1,5 @@
 -- `engine_notes::memory_short` meets its contract.
 use mathlib.Core.Path.{sym}
-use borrow.Author.Rules.{rules}
 use Rattle.engine_notes.proofs.memory_short.Goals as goal
 
 pub returns-then-held_short : goal.returns-then-held_short

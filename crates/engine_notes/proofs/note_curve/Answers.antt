@@ -1,5 +1,4 @@
 -- `engine_notes::note_curve` meets its contract.
-use borrow.Author.Rules.{rules}
 use Rattle.model.specs.NoteCalls.{note_curve}
 use Rattle.engine_notes.proofs.note_curve.Goals as goal
 

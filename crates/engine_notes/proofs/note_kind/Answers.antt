@@ -1,5 +1,4 @@
 -- `engine_notes::note_kind` meets its contract.
-use borrow.Author.Rules.{rules}
 use Rattle.engine_notes.proofs.note_kind.Goals as goal
 
 pub returns-in-Alternate : goal.returns-in-Alternate

@@ -1,6 +1,4 @@
 -- `engine_notes::notes_with` meets its contract.
-use borrow.Author.Tests.{not-true, not-false}
-use borrow.Author.Rules.{rules}
 use Rattle.engine_notes.specs.Noting.{notes_with}
 use Rattle.engine_notes.proofs.notes_with.Goals as goal
 

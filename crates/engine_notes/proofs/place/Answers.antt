@@ -1,6 +1,5 @@
 -- `engine_notes::place` meets its contract.
 use native.Mathlib.Omega.{arith}
-use borrow.Author.Rules.{rules}
 use Rattle.engine_notes.proofs.Steps.{product-bound}
 use Rattle.engine_notes.proofs.place.Goals as goal
 

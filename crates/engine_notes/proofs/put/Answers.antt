@@ -1,6 +1,4 @@
 -- `engine_notes::put` meets its contract.
-use borrow.Author.Tests.{not-true, not-false}
-use borrow.Author.Rules.{rules}
 use Rattle.engine_notes.proofs.Steps.{set_past}
 use Rattle.engine_notes.proofs.put.Goals as goal
 

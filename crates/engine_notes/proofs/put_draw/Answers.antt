@@ -1,6 +1,4 @@
 -- `engine_notes::put_draw` meets its contract.
-use borrow.Author.Tests.{not-true, not-false}
-use borrow.Author.Rules.{rules}
 use Rattle.engine_notes.proofs.put_draw.Goals as goal
 
 pub returns-then-not-on : goal.returns-then-not-on

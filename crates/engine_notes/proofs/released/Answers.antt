@@ -1,6 +1,5 @@
 -- `engine_notes::released` meets its contract.
 use borrow.Author.Tests.{ne_eqb}
-use borrow.Author.Rules.{rules}
 use Rattle.engine_notes.proofs.released.Goals as goal
 
 pub returns-then-code-ne0 : goal.returns-then-code-ne0

@@ -1,7 +1,6 @@
 -- `engine_notes::started` meets its contract.
 use mathlib.Core.Path.{refl}
 use borrow.Author.Tests.{ne_eqb}
-use borrow.Author.Rules.{rules}
 use Rattle.engine_notes.proofs.started.Goals as goal
 
 pub returns-then-code-ne0 : goal.returns-then-code-ne0

@@ -1,5 +1,4 @@
 -- `engine_notes::stepped` meets its contract.
-use borrow.Author.Rules.{rules}
 use Rattle.engine_notes.proofs.stepped.Goals as goal
 
 pub returns-then-on : goal.returns-then-on

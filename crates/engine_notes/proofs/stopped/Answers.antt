@@ -1,6 +1,5 @@
 -- `engine_notes::stopped` meets its contract.
 use Rattle.engine_notes.specs.Noting.{sound_ended}
-use borrow.Author.Rules.{rules}
 use Rattle.engine_notes.proofs.stopped.Goals as goal
 
 pub returns : goal.returns

@@ -1,5 +1,4 @@
 -- `engine_notes::tables_short` meets its contract.
-use borrow.Author.Tests.{not-true, not-false}
 use Rattle.engine_notes.proofs.Steps.{none-short}
 use Rattle.engine_notes.proofs.tables_short.Goals as goal
 

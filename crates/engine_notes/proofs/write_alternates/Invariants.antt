@@ -1,17 +1,8 @@
 -- `engine_notes::write_alternates` meets its contract. The invariant: the alternate sources below i are written.
-use mathlib.Core.Path.{◌≡◌, refl, ap, ◌∙◌}
-use mathlib.Core.Bool.{cond}
+use mathlib.Core.Path.{◌≡◌}
 use Prim.Native.Nat.{◌-◌, ◌≤◌}
-use native.Mathlib.Omega.{arith}
-use borrow.Author.Rules.{rules}
-use lib.ListN.{length, set}
-use lib.Dec.{leb}
-use lib.Ieee.{Float}
-use Rattle.list.proofs.Elements.{get_or-inside, length-mapped}
-use Rattle.model.specs.World.{no_mark}
-use Rattle.state.specs.declared.SourceMark.{SourceMark}
-use Rattle.engine_notes.specs.Noting.{note_kind, alternates_in}
-use Rattle.engine_notes.proofs.Steps.{alternates-next}
+use lib.ListN.{length}
+use Rattle.engine_notes.specs.Noting.{alternates_in}
 use Rattle.engine_notes.proofs.write_alternates.Given as goal
 
 abbrev pub invariant-loop-i : goal.invariant-loop-i

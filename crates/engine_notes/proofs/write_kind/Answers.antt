@@ -1,8 +1,6 @@
 use mathlib.Core.Path.{◌≡◌, refl, ap, ◌∙◌}
-use Prim.Native.Nat.{◌-◌, ◌≤◌}
 use native.Mathlib.Omega.{arith}
 use borrow.Author.Rules.{rules}
-use lib.ListN.{length}
 use Rattle.model.specs.World.{no_mark}
 use Rattle.state.specs.declared.SourceMark.{SourceMark}
 use Rattle.engine_notes.specs.Noting.{note_kind, held_in}

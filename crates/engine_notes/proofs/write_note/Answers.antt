@@ -1,5 +1,4 @@
 -- `engine_notes::write_note` meets its contract.
-use borrow.Author.Rules.{rules}
 use lib.Ieee.{of_bits}
 use Rattle.engine_notes.specs.Noting.{held_on}
 use Rattle.engine_notes.proofs.write_note.Goals as goal

@@ -1,8 +1,6 @@
 use mathlib.Core.Path.{◌≡◌, refl, ap, ◌∙◌}
-use Prim.Native.Nat.{◌-◌, ◌≤◌}
 use native.Mathlib.Omega.{arith}
 use borrow.Author.Rules.{rules}
-use lib.ListN.{length}
 use Rattle.list.proofs.Elements.{get_or-inside, length-mapped}
 use Rattle.model.specs.World.{no_mark}
 use Rattle.state.specs.declared.SourceMark.{SourceMark}

@@ -1,7 +1,5 @@
 -- `engine_notes::write_value` meets its contract.
 use mathlib.Core.Path.{sym, ap, ◌∙◌}
-use borrow.Author.Tests.{not-true, not-false}
-use borrow.Author.Rules.{rules}
 use lib.Ieee.{Float}
 use Rattle.voice.specs.Notes.{glides_to}
 use Rattle.engine_notes.specs.Noting.{value_in}

@@ -15,7 +15,7 @@ pub returns-then-a-b : goal.returns-then-a-b
 returns-then-a-b c =
     let s = c.args in
     fed-here (marked s.feeds.now) s.placed.now s.n s.b c.loop-a.a (omega arith)
-    (c.if-not-placed-a.true) c.if-feeds-a.true c.if-a-b.true
+    (assumption) c.if-feeds-a.true c.if-a-b.true
     ∙ sym c.loop-a.invariant.1
 
 pub loop-a-preserved : goal.loop-a-preserved

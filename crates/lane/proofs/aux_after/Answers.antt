@@ -1,5 +1,4 @@
 -- `lane::aux_after` meets its contract.
-use borrow.Author.Rules.{rules}
 use mathlib.Core.Path.{refl}
 use Rattle.model.specs.Slews.{aux_after}
 use Rattle.lane.proofs.aux_after.Goals as goal

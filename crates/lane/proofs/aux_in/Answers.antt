@@ -1,5 +1,4 @@
 -- `lane::aux_in` meets its contract.
-use borrow.Author.Rules.{rules}
 use Rattle.lane.proofs.aux_in.Goals as goal
 
 pub returns : goal.returns

@@ -1,5 +1,4 @@
 -- `lane::aux_moved` meets its contract.
-use borrow.Author.Rules.{rules}
 use Rattle.lane.proofs.Values.{aux-moved, aux-kept}
 use Rattle.lane.proofs.aux_moved.Goals as goal
 

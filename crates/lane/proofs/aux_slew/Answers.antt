@@ -1,5 +1,4 @@
 -- `lane::aux_slew` meets its contract.
-use borrow.Author.Rules.{rules}
 use mathlib.Core.Path.{◌∙◌}
 use Rattle.lane.proofs.aux_slew.Goals as goal
 

@@ -1,5 +1,4 @@
 -- `lane::flipped` meets its contract.
-use borrow.Author.Rules.{rules}
 use lib.Ieee.{of_bits}
 use Rattle.lane.proofs.flipped.Goals as goal
 

@@ -1,5 +1,4 @@
 -- `lane::gain_in` meets its contract.
-use borrow.Author.Rules.{rules}
 use Rattle.lane.proofs.gain_in.Goals as goal
 
 pub returns-in-Live : goal.returns-in-Live

@@ -1,5 +1,4 @@
 -- `lane::gained` meets its contract.
-use borrow.Author.Rules.{rules}
 use Rattle.lane.proofs.gained.Goals as goal
 
 pub returns : goal.returns

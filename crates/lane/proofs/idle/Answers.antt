@@ -1,7 +1,6 @@
 -- `lane::idle` meets its contract.
 use mathlib.Core.Path.{ap}
 use mathlib.Core.Bool.{not}
-use borrow.Author.Rules.{rules}
 use lib.Ieee.{of_bits}
 use Rattle.lane_input.proofs.Tests.{was-true, was-false}
 use Rattle.lane.proofs.idle.Goals as goal

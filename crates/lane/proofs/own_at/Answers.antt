@@ -1,5 +1,4 @@
 -- `lane::own_at` meets its contract.
-use borrow.Author.Rules.{rules}
 use Rattle.lane.proofs.own_at.Goals as goal
 
 pub returns : goal.returns

@@ -1,5 +1,4 @@
 -- `lane::own_kept` meets its contract.
-use borrow.Author.Rules.{rules}
 use Rattle.lane.proofs.own_kept.Goals as goal
 
 pub returns : goal.returns

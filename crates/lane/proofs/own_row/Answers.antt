@@ -1,5 +1,4 @@
 -- `lane::own_row` meets its contract.
-use borrow.Author.Rules.{rules}
 use native.Mathlib.Omega.{arith}
 use Rattle.lane_input.proofs.Numbers.{product-bound}
 use Rattle.lane.proofs.own_row.Goals as goal

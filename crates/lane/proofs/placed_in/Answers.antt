@@ -1,5 +1,4 @@
 -- `lane::placed_in` meets its contract.
-use borrow.Author.Rules.{rules}
 use Rattle.lane.proofs.Values.{input-from}
 use Rattle.lane.proofs.placed_in.Goals as goal
 

@@ -1,5 +1,4 @@
 -- `lane::plain` meets its contract.
-use borrow.Author.Rules.{rules}
 use borrow.Author.Tests.{not-true, not-false}
 use Rattle.model.specs.RouteValue.{plain}
 use Rattle.lane.proofs.plain.Goals as goal

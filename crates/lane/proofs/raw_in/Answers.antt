@@ -1,5 +1,4 @@
 -- `lane::raw_in` meets its contract.
-use borrow.Author.Rules.{rules}
 use Rattle.lane.proofs.raw_in.Goals as goal
 
 pub returns : goal.returns

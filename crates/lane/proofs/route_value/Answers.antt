@@ -1,5 +1,4 @@
 -- `lane::route_value` meets its contract.
-use borrow.Author.Rules.{rules}
 use Rattle.lane.proofs.Values.{value_of}
 use Rattle.lane.proofs.route_value.Goals as goal
 

@@ -1,5 +1,4 @@
 -- `lane::row_whole` meets its contract.
-use borrow.Author.Rules.{rules}
 use native.Mathlib.Omega.{arith}
 use borrow.Author.Tests.{lt-ltb, le-ltb, lt-leb, le-leb}
 use Rattle.lane.proofs.row_whole.Goals as goal

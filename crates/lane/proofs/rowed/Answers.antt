@@ -1,5 +1,4 @@
 -- `lane::rowed` meets its contract.
-use borrow.Author.Rules.{rules}
 use Rattle.lane.proofs.Values.{signal-rowed}
 use Rattle.lane.proofs.rowed.Goals as goal
 

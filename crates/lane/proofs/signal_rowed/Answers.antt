@@ -1,6 +1,4 @@
 -- `lane::signal_rowed` meets its contract.
-use borrow.Author.Rules.{rules}
-use borrow.Author.Tests.{not-true, not-false}
 use Rattle.lane.proofs.signal_rowed.Goals as goal
 
 pub returns-then-not-voice : goal.returns-then-not-voice

@@ -1,5 +1,4 @@
 -- `lane::source_after` meets its contract.
-use borrow.Author.Rules.{rules}
 use Rattle.lane.proofs.Values.{source-moved, source-kept}
 use Rattle.lane.proofs.source_after.Goals as goal
 

@@ -1,5 +1,4 @@
 -- `lane::source_in` meets its contract.
-use borrow.Author.Rules.{rules}
 use Rattle.lane.proofs.source_in.Goals as goal
 
 pub returns : goal.returns

@@ -1,5 +1,4 @@
 -- `lane::sourced` meets its contract.
-use borrow.Author.Rules.{rules}
 use mathlib.Core.Path.{sym, ◌∙◌}
 use Rattle.lane.proofs.sourced.Goals as goal
 

@@ -1,5 +1,4 @@
 -- `lane::spread` meets its contract.
-use borrow.Author.Rules.{rules}
 use lib.Ieee.{of_bits}
 use Rattle.lane.proofs.spread.Goals as goal
 

@@ -1,5 +1,4 @@
 -- `lane::with_aux` meets its contract.
-use borrow.Author.Rules.{rules}
 use Rattle.lane.proofs.with_aux.Goals as goal
 
 pub returns-in-Missing : goal.returns-in-Missing

@@ -1,5 +1,4 @@
 -- `lane_input::addend` meets its contract.
-use borrow.Author.Rules.{rules}
 use mathlib.Core.Path.{◌∙◌}
 use Rattle.lane_input.proofs.Lanes.{own-addend}
 use Rattle.lane_input.proofs.addend.Goals as goal

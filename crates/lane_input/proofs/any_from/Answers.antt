@@ -1,10 +1,6 @@
 use mathlib.Core.Path.{◌≡◌, refl, sym, ◌∙◌}
-use mathlib.Core.Bool.{false}
-use Prim.Native.Nat.{◌≤◌, ◌-◌}
 use native.Mathlib.Omega.{arith}
-use Rattle.model.specs.Lanes.{any_from}
 use Rattle.lane_input.proofs.Marks.{any_found, any_next}
-use borrow.Author.Rules.{rules}
 use Rattle.lane_input.proofs.any_from.Goals as goal
 
 pub loop-i-init : goal.loop-i-init

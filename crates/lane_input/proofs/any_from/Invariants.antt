@@ -1,11 +1,8 @@
 -- `lane_input::any_from` meets its contract. The invariant: none of the marks before i is set.
-use mathlib.Core.Path.{◌≡◌, refl, sym, ◌∙◌}
+use mathlib.Core.Path.{◌≡◌}
 use mathlib.Core.Bool.{false}
 use Prim.Native.Nat.{◌≤◌, ◌-◌}
-use native.Mathlib.Omega.{arith}
 use Rattle.model.specs.Lanes.{any_from}
-use Rattle.lane_input.proofs.Marks.{any_found, any_next}
-use borrow.Author.Rules.{rules}
 use Rattle.lane_input.proofs.any_from.Given as goal
 
 abbrev pub invariant-loop-i : goal.invariant-loop-i

@@ -1,6 +1,4 @@
 -- `lane_input::curved` meets its contract.
-use borrow.Author.Rules.{rules}
-use borrow.Author.Tests.{not-true, not-false}
 use Rattle.lane_input.proofs.curved.Goals as goal
 
 pub returns-then-not-table : goal.returns-then-not-table

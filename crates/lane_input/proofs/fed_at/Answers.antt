@@ -1,5 +1,4 @@
 -- `lane_input::fed_at` meets its contract.
-use borrow.Author.Rules.{rules}
 use borrow.Author.Tests.{lt-ltb, le-ltb}
 use Rattle.lane_input.proofs.fed_at.Goals as goal
 

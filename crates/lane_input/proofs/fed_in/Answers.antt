@@ -1,5 +1,4 @@
 -- `lane_input::fed_in` meets its contract.
-use borrow.Author.Rules.{rules}
 use Rattle.model.specs.Input.{own}
 use Rattle.lane_input.proofs.fed_in.Goals as goal
 

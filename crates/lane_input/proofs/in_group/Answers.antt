@@ -1,5 +1,4 @@
 -- `lane_input::in_group` meets its contract.
-use borrow.Author.Rules.{rules}
 use Rattle.model.specs.Lanes.{in_group}
 use Rattle.lane_input.proofs.in_group.Goals as goal
 

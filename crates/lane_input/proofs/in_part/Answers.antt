@@ -1,5 +1,4 @@
 -- `lane_input::in_part` meets its contract.
-use borrow.Author.Rules.{rules}
 use lib.Ieee.{of_bits}
 use borrow.Author.Tests.{lt-ltb, le-ltb}
 use Rattle.lane_input.proofs.in_part.Goals as goal

@@ -1,7 +1,6 @@
 -- `lane_input::in_span` meets its contract.
 use mathlib.Core.Path.{ap}
 use mathlib.Core.Bool.{not}
-use borrow.Author.Rules.{rules}
 use Rattle.model.specs.Lanes.{in_span}
 use Rattle.lane_input.proofs.Tests.{was-true, was-false}
 use Rattle.lane_input.proofs.in_span.Goals as goal

@@ -1,5 +1,4 @@
 -- `lane_input::input_in` meets its contract.
-use borrow.Author.Rules.{rules}
 use Rattle.lane_input.proofs.Reading.{input_of}
 use Rattle.lane_input.proofs.input_in.Goals as goal
 

@@ -1,5 +1,4 @@
 -- `lane_input::lane_from` meets its contract. Past the slice there is a NaN.
-use borrow.Author.Rules.{rules}
 use mathlib.Core.Path.{sym, ◌∙◌}
 use lib.Ieee.{nan}
 use Rattle.lane_input.proofs.Numbers.{past-start, past-rest}

@@ -1,5 +1,4 @@
 -- `lane_input::lane_if` meets its contract.
-use borrow.Author.Rules.{rules}
 use Rattle.lane_input.proofs.lane_if.Goals as goal
 
 pub returns-then-on : goal.returns-then-on

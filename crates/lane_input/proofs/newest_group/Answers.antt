@@ -1,5 +1,4 @@
 -- `lane_input::newest_group` meets its contract.
-use borrow.Author.Rules.{rules}
 use Rattle.lane_input.proofs.newest_group.Goals as goal
 
 pub returns-in-Voice : goal.returns-in-Voice

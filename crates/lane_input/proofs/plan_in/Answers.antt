@@ -1,5 +1,4 @@
 -- `lane_input::plan_in` meets its contract.
-use borrow.Author.Rules.{rules}
 use Rattle.lane_input.proofs.plan_in.Goals as goal
 
 pub returns : goal.returns

@@ -1,5 +1,4 @@
 -- `lane_input::plan_to` meets its contract.
-use borrow.Author.Rules.{rules}
 use native.Mathlib.Omega.{arith}
 use Rattle.lane_input.proofs.Numbers.{product-bound}
 use Rattle.lane_input.proofs.plan_to.Goals as goal

@@ -1,5 +1,4 @@
 -- `lane_input::read_in` meets its contract.
-use borrow.Author.Rules.{rules}
 use lib.Ieee.{of_bits}
 use Rattle.lane_input.proofs.Reading.{signal-read, held-read, fed-read}
 use Rattle.lane_input.proofs.read_in.Goals as goal

@@ -1,5 +1,4 @@
 -- `lane_input::rows_within` meets its contract.
-use borrow.Author.Rules.{rules}
 use Rattle.lane_input.proofs.Numbers.{rows-div}
 use Rattle.lane_input.proofs.rows_within.Goals as goal
 

@@ -1,7 +1,6 @@
 -- `lane_input::sample_at` meets its contract.
-use borrow.Author.Rules.{rules}
 use lib.Ieee.{of_bits}
-use borrow.Author.Tests.{lt-ltb, le-ltb, not-true, not-false}
+use borrow.Author.Tests.{lt-ltb, le-ltb}
 use Rattle.model.specs.Env.{sample_in}
 use native.Mathlib.Nat.{add-zero}
 use Rattle.lane_input.proofs.sample_at.Goals as goal

@@ -1,5 +1,4 @@
 -- `lane_input::sample_in` meets its contract. A part that lies inside the samples is read as a record, any other by `sample_at`.
-use borrow.Author.Rules.{rules}
 use native.Mathlib.Omega.{arith}
 use Rattle.list.specs.Part.{part}
 use Rattle.lane_input.proofs.Parts.{of-own}

@@ -1,5 +1,4 @@
 -- `lane_input::slewed` meets its contract.
-use borrow.Author.Rules.{rules}
 use Rattle.lane_input.proofs.slewed.Goals as goal
 
 pub returns-in-Free : goal.returns-in-Free

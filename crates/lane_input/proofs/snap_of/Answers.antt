@@ -1,8 +1,6 @@
 -- `lane_input::snap_of` meets its contract.
-use borrow.Author.Rules.{rules}
 use mathlib.Core.Path.{sym, ◌∙◌}
 use lib.Ieee.{of_bits}
-use borrow.Author.Tests.{not-true, not-false}
 use Rattle.lane_input.proofs.snap_of.Goals as goal
 
 pub returns-then-not-voice : goal.returns-then-not-voice

@@ -1,5 +1,4 @@
 -- `lane_input::sounding` meets its contract.
-use borrow.Author.Rules.{rules}
 use Rattle.model.specs.Lanes.{sounding}
 use Rattle.lane_input.proofs.sounding.Goals as goal
 

@@ -1,5 +1,4 @@
 -- `lane_input::unipolar` meets its contract.
-use borrow.Author.Rules.{rules}
 use lib.Ieee.{of_bits}
 use Rattle.lane_input.proofs.unipolar.Goals as goal
 

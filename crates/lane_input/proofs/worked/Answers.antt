@@ -1,6 +1,4 @@
 -- `lane_input::worked` meets its contract.
-use borrow.Author.Rules.{rules}
-use borrow.Author.Tests.{not-true, not-false}
 use Rattle.lane_input.proofs.Lanes.{global-worked}
 use Rattle.lane_input.proofs.worked.Goals as goal
 

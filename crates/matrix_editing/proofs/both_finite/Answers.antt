@@ -1,9 +1,7 @@
 -- `matrix_editing::both_finite` meets its contract.
 use mathlib.Core.Path.{sym, ◌∙◌}
-use borrow.Author.Tests.{not-true, not-false}
 use Rattle.list.proofs.Bools.{and-false, and-true}
 use Rattle.matrix_editing.specs.Drag.{both_finite}
-use borrow.Author.Rules.{rules}
 use Rattle.matrix_editing.proofs.both_finite.Goals as goal
 
 pub returns-then-not-is_finite : goal.returns-then-not-is_finite

@@ -1,7 +1,6 @@
 -- `matrix_editing::depth_at` meets its contract.
 use lib.Ieee.{of_bits}
 use Rattle.matrix_editing.specs.Drag.{within, depth_at}
-use borrow.Author.Rules.{rules}
 use Rattle.matrix_editing.proofs.depth_at.Goals as goal
 
 pub returns : goal.returns

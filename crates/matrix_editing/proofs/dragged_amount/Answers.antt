@@ -1,6 +1,5 @@
 -- `matrix_editing::dragged_amount` meets its contract.
 use Rattle.matrix_editing.specs.Drag.{dragged_amount}
-use borrow.Author.Rules.{rules}
 use Rattle.matrix_editing.proofs.dragged_amount.Goals as goal
 
 pub returns-then-limit : goal.returns-then-limit

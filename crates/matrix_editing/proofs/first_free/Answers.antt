@@ -1,10 +1,6 @@
-use mathlib.Core.Path.{◌≡◌, sym, ◌∙◌}
-use Prim.Native.Nat.{◌+◌, ◌-◌, ◌≤◌}
+use mathlib.Core.Path.{sym, ◌∙◌}
 use native.Mathlib.Omega.{arith}
 use borrow.Author.Rules.{rules}
-use borrow.Author.Tests.{not-true, not-false}
-use lib.ListN.{length, drop}
-use Rattle.matrix_editing.specs.Free.{first_free}
 use Rattle.matrix_editing.proofs.Laws.{free-here, free-later, free-past}
 use Rattle.matrix_editing.proofs.first_free.Goals as goal
 

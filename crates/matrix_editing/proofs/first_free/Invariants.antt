@@ -1,12 +1,8 @@
 -- `matrix_editing::first_free` meets its contract. The loop's invariant: each of the sources passed is in use.
-use mathlib.Core.Path.{◌≡◌, sym, ◌∙◌}
+use mathlib.Core.Path.{◌≡◌}
 use Prim.Native.Nat.{◌+◌, ◌-◌, ◌≤◌}
-use native.Mathlib.Omega.{arith}
-use borrow.Author.Rules.{rules}
-use borrow.Author.Tests.{not-true, not-false}
 use lib.ListN.{length, drop}
 use Rattle.matrix_editing.specs.Free.{first_free}
-use Rattle.matrix_editing.proofs.Laws.{free-here, free-later, free-past}
 use Rattle.matrix_editing.proofs.first_free.Given as goal
 
 abbrev pub invariant-loop-i : goal.invariant-loop-i

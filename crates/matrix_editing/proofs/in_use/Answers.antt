@@ -1,10 +1,6 @@
-use mathlib.Core.Path.{◌≡◌, refl, sym, ◌∙◌}
-use Prim.Native.Nat.{◌-◌, ◌≤◌}
+use mathlib.Core.Path.{refl, sym, ◌∙◌}
 use native.Mathlib.Omega.{arith}
 use borrow.Author.Rules.{rules}
-use lib.ListN.{length, drop}
-use Rattle.config.specs.Sizes.{slots}
-use Rattle.matrix_editing.specs.Free.{in_use}
 use Rattle.matrix_editing.proofs.Laws.{used-here, used-later, used-past}
 use Rattle.matrix_editing.proofs.in_use.Goals as goal
 

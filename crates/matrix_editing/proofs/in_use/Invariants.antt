@@ -1,12 +1,9 @@
 -- `matrix_editing::in_use` meets its contract. The loop's invariant: none of the slots passed has the source.
-use mathlib.Core.Path.{◌≡◌, refl, sym, ◌∙◌}
+use mathlib.Core.Path.{◌≡◌}
 use Prim.Native.Nat.{◌-◌, ◌≤◌}
-use native.Mathlib.Omega.{arith}
-use borrow.Author.Rules.{rules}
 use lib.ListN.{length, drop}
 use Rattle.config.specs.Sizes.{slots}
 use Rattle.matrix_editing.specs.Free.{in_use}
-use Rattle.matrix_editing.proofs.Laws.{used-here, used-later, used-past}
 use Rattle.matrix_editing.proofs.in_use.Given as goal
 
 abbrev pub invariant-loop-i : goal.invariant-loop-i

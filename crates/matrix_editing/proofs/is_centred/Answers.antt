@@ -2,7 +2,6 @@
 use mathlib.Core.Path.{ap}
 use lib.Ieee.{Float, le, of_bits}
 use Rattle.matrix_editing.specs.Drag.{centre_tolerance, centred}
-use borrow.Author.Rules.{rules}
 use Rattle.matrix_editing.proofs.is_centred.Goals as goal
 
 pub returns : goal.returns

@@ -1,7 +1,6 @@
 -- `matrix_editing::picks_source` meets its contract.
-use mathlib.Core.Path.{sym, ap, ◌∙◌}
+use mathlib.Core.Path.{sym, ap}
 use Rattle.matrix_editing.specs.Free.{picks_source}
-use borrow.Author.Rules.{rules}
 use Rattle.matrix_editing.proofs.picks_source.Goals as goal
 
 pub returns-in-Source : goal.returns-in-Source

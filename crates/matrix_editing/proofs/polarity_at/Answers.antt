@@ -2,7 +2,6 @@
 use mathlib.Core.Path.{ap, ◌∙◌}
 use mathlib.Core.Bool.{Bool, not}
 use Rattle.matrix_editing.specs.Drag.{two_way, polarity_at}
-use borrow.Author.Rules.{rules}
 use Rattle.matrix_editing.proofs.polarity_at.Goals as goal
 
 pub returns-then-toggle : goal.returns-then-toggle

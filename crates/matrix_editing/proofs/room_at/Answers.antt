@@ -3,7 +3,6 @@ use Rattle.state.specs.declared.Polarity.{Polarity}
 use mathlib.Core.Path.{sym, ap, ◌∙◌}
 use lib.Ieee.{of_bits}
 use Rattle.matrix_editing.specs.Drag.{room_at}
-use borrow.Author.Rules.{rules}
 use Rattle.matrix_editing.proofs.room_at.Goals as goal
 
 pub returns-in-Unipolar : goal.returns-in-Unipolar
