@@ -1,5 +1,5 @@
 -- The definitions, computed.
-use Rattle.std.specs.Prelude.{◌≡◌, refl, true, false, [], ◌∷◌, pos}
+use Rattle.std.specs.Prelude.{◌≡◌, refl, false, [], ◌∷◌, pos}
 use Rattle.std.specs.Float.{nan, inf, fin}
 use Rattle.std.specs.Float.Ieee.{neg, is_nan, lt, le, add, sub, mul, div, of_int, to_unsigned}
 use Rattle.refusal.specs.Judge.{judged}

@@ -5,7 +5,7 @@ use mathlib.Core.List.{List, [], ◌∷◌}
 use Prim.Native.Nat.{ℕ, zero, suc}
 use lib.ListN.{take, drop}
 use Rattle.refusal.specs.Judge.{judged}
-use Rattle.reply.specs.Reply.{Reply, accepts, by_rows}
+use Rattle.reply.specs.Reply.{accepts, by_rows}
 use Rattle.state.specs.Registry.{same_target}
 use Rattle.state.specs.declared.Target.{Target}
 use Rattle.state.specs.declared.Dest.{Dest}

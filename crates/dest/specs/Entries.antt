@@ -1,6 +1,6 @@
 -- The registry of destinations: which entries are registered, and how one is found (document 01, Destination entry;
 -- dest.rs 212-217, 276-299). Definitions only.
-use Rattle.std.specs.Prelude.{◌≡◌, refl, Bool, true, false, cond, ◌&&◌, List, [], ◌∷◌, ℕ, zero, suc, min, eqb, take, replicate}
+use Rattle.std.specs.Prelude.{◌≡◌, refl, Bool, true, false, cond, List, [], ◌∷◌, ℕ, zero, suc, eqb, take, replicate}
 use Rattle.number.specs.Number.{zero32, one32}
 use Rattle.config.specs.Sizes.{most_destinations}
 use Rattle.state.specs.Registry.{dest_count, same_target}

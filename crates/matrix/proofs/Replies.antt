@@ -1,5 +1,5 @@
 -- The calls that place a route say what is promised. Assumes nothing.
-use mathlib.Core.Path.{◌≡◌, refl, sym}
+use mathlib.Core.Path.{◌≡◌, refl}
 use mathlib.Core.Bool.{Bool, true, false, cond, not, ◌&&◌}
 use mathlib.Core.List.{List, [], ◌∷◌}
 use Prim.Native.Nat.{ℕ, zero, suc}
@@ -11,7 +11,7 @@ use borrow.Author.Tests.{ne_eqb}
 use Rattle.config.specs.Sizes.{slots}
 use Rattle.refusal.specs.Judge.{Row, ◌when◌, judged}
 use Rattle.number.specs.Number.{finite}
-use Rattle.reply.specs.Reply.{Reply, accepts, refuses, only, by_rows}
+use Rattle.reply.specs.Reply.{accepts, refuses, only, by_rows}
 use Rattle.state.specs.declared.Pick.TheVariants as A
 use Rattle.state.specs.declared.Target.{Target}
 use Rattle.state.specs.declared.Polarity.{Polarity}
@@ -20,7 +20,7 @@ use Rattle.state.specs.declared.Slot.{Slot}
 use Rattle.state.specs.declared.Matrix.{Matrix}
 use Rattle.slots.specs.Slots.{first_empty, route_slot, kept_amount, with_aux}
 use Rattle.slots.specs.Matrix.{with_slot}
-use Rattle.matrix_editing.specs.Drag.{both_finite, polarity_at, dragged_amount}
+use Rattle.matrix_editing.specs.Drag.{polarity_at, dragged_amount}
 use Rattle.matrix_editing.specs.Free.{first_free}
 use Rattle.matrix.specs.declared.Place.TheVariants as P
 use Rattle.matrix.specs.declared.Placed.{Placed}

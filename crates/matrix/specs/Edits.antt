@@ -1,5 +1,5 @@
 -- The public calls on the matrix (document 01, Slot, case 11 and rows; matrix.rs). Definitions only.
-use Rattle.std.specs.Prelude.{Bool, true, false, not, cond, ◌&&◌, ◌||◌, List, [], ◌∷◌, map, ℕ, eqb, leb, ltb, length, Float}
+use Rattle.std.specs.Prelude.{Bool, true, false, cond, ◌&&◌, ◌||◌, List, [], ◌∷◌, map, ℕ, eqb, leb, ltb, length, Float}
 use Rattle.config.specs.Sizes.{slots}
 use Rattle.refusal.specs.Judge.{Row, judged, ◌when◌}
 use Rattle.number.specs.Number.{finite}

@@ -1,6 +1,6 @@
 -- What the calls that place a route say: number and values of each case (document 01, The form to use in each place).
 -- Definitions only.
-use Rattle.std.specs.Prelude.{Bool, ◌&&◌, List, [], ◌∷◌, ℕ, ltb, length, Float}
+use Rattle.std.specs.Prelude.{◌&&◌, List, [], ◌∷◌, ℕ, ltb, length, Float}
 use Rattle.config.specs.Sizes.{slots}
 use Rattle.refusal.specs.Judge.{Row}
 use Rattle.number.specs.Number.{finite}

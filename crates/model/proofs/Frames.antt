@@ -147,7 +147,7 @@ pub after_frame : (samples : List Float) (signals : Signals) (i : ℕ) (c : Chun
 after_frame samples signals i c snap u =
     frame_on (rowed-frame i u) (frame_on (sounded-frame samples signals c snap (rowed i u)) (glided-frame c.len (sounded samples signals c snap (rowed i u))))
 
-ticked-frame : (samples : List Float) (signals : Signals) (c : Chunk) (snap : Bool) (u : World) → Frame u (ticked samples signals c snap u)
+pub ticked-frame : (samples : List Float) (signals : Signals) (c : Chunk) (snap : Bool) (u : World) → Frame u (ticked samples signals c snap u)
 ticked-frame samples signals c snap u =
     let t = env_of u samples signals c snap in
     cond-frame c.tick (primed-frame u (tick_of u.state t c.phase u.values) (tick-length u.state t c.phase u.values)) (frame_self u)

@@ -27,12 +27,12 @@ aside-after : (k a l b m : ℕ) → Aside a l b m → Aside (k + a) l (k + b) m
 aside-after k a l b m h = ⊎_elim (λ r. inl (omega arith)) (λ r. inr (omega arith)) h
 
 -- rows of width w, in room for n rows of a width at least as large
-narrow-inside : (w s : ℕ) {c n : ℕ} → w ≤ s → c < n → c * w + w ≤ n * s
+pub narrow-inside : (w s : ℕ) {c n : ℕ} → w ≤ s → c < n → c * w + w ≤ n * s
 narrow-inside w s {c} {n} h b = omega (arith, row_inside w b, mul-le-mul_left n h)
 
 -- ---- a plan's parts
 
-plan-rows : (s c : ℕ) → plan_size s c ≡ 2 * s + (c * s + c * s) + 4 * s
+pub plan-rows : (s c : ℕ) → plan_size s c ≡ 2 * s + (c * s + c * s) + 4 * s
 plan-rows s c = omega (arith, mul-add s (2 * c) 6, mul_left_comm s 2 c, mul_comm s c)
 
 module _ (s c w : ℕ) where
@@ -129,7 +129,7 @@ module _ (z : Sizes) where
 -- ---- THE THEOREMS
 
 module _ (z : Sizes) (h : 1 ≤ z.stride) where
-  narrow : (i : ℕ) → row_width z i ≤ z.stride
+  pub narrow : (i : ℕ) → row_width z i ≤ z.stride
   narrow i = go (z.voice i)
     where
       go : (v : Bool) → plan_width z.stride v ≤ z.stride
@@ -144,7 +144,7 @@ module _ (z : Sizes) (h : 1 ≤ z.stride) where
   at-frame i k v = omega (arith, narrow-inside (row_width z i) z.stride (narrow i) v, mul_comm z.stride z.frames)
 
   -- the plans end before the routes start
-  plan-ends : (i : ℕ) (q : PlanPart) → Valid z (of_plan i q) → start z (of_plan i q) + row_width z i ≤ z.plans * plan_block z
+  pub plan-ends : (i : ℕ) (q : PlanPart) → Valid z (of_plan i q) → start z (of_plan i q) + row_width z i ≤ z.plans * plan_block z
   plan-ends i q v = omega (arith, plan-start z i q, block_inside (plan_block z) (place z i q) (row_width z i) v.0 (of-plan i q v.1))
 
   -- EVERY PART ENDS INSIDE ITS MEMORY

@@ -31,3 +31,11 @@ pub mod SaidSlots
 pub mod SaidFeeds
 pub mod SaidSums
 pub mod SaidTicks
+pub mod LentToRead
+pub mod LentFrames
+pub mod Answered
+pub mod AnsweredThere
+pub mod Sessions
+pub mod ProgramTables
+pub mod ShownRows
+pub mod BlockLeaves

@@ -48,7 +48,7 @@ good-frame {u = u} {v = v} f g =
 
 -- ---- an accepted block has room
 
-not-true : (b : Bool) → not b ≡ true → b ≡ false
+pub not-true : (b : Bool) → not b ≡ true → b ≡ false
 not-true true e = sym e
 not-true false e = refl
 

@@ -143,7 +143,7 @@ module _ (v : ℕ) (n : Note) where
 
 -- ---- a block
 
-block-stays : (u : World) (samples : List Float) (signals : Signals) (start end : ℕ) → Stays u (process u samples signals start end).world
+pub block-stays : (u : World) (samples : List Float) (signals : Signals) (start end : ℕ) → Stays u (process u samples signals start end).world
 unfolding process
 block-stays u samples signals start end =
     let b = block_of u.state start end in
@@ -216,7 +216,7 @@ abbrev back : Runner → Kept
 back r = record { program = r.world.state.program; values = r.world.values; audio = r.world.audio; tables = r.world.tables }
 
 -- a program that is not installed is the one that is kept
-other-kept : (r : Runner) (k : ℕ) → k ≢ r.installed → program_at r k ≡ (get_or r.kept k (no_kept r.world.state.config)).program
+pub other-kept : (r : Runner) (k : ℕ) → k ≢ r.installed → program_at r k ≡ (get_or r.kept k (no_kept r.world.state.config)).program
 other-kept r k ne = ap (λ (x : Kept). x.program) (get_or-set_other r.kept r.installed k (back r) (no_kept r.world.state.config) ne)
 
 module _ (names : ℕ → Wiring) (r : Runner) (h : Named names r) where
@@ -315,7 +315,7 @@ module _ (names : ℕ → Wiring) (r : Runner) (h : Named names r) where
 
 -- ---- a fresh engine
 
-new-slots : length new_matrix.slot ≡ slots
+pub new-slots : length new_matrix.slot ≡ slots
 unfolding new_matrix empty_slot
 new-slots = refl
 
@@ -325,7 +325,7 @@ module _ (c : Config) where
   given (p ∷ ps) zero = refl
   given (p ∷ ps) (suc k) = given ps k
 
-  given-slots : (ps : List Compiled) → Slotted ps → (k : ℕ) → length (get_or (map (λ p. p.wiring) ps) k (nothing_wired c)).matrix.slot ≡ slots
+  pub given-slots : (ps : List Compiled) → Slotted ps → (k : ℕ) → length (get_or (map (λ p. p.wiring) ps) k (nothing_wired c)).matrix.slot ≡ slots
   given-slots [] s k = new-slots
   given-slots (p ∷ ps) s zero = s.0
   given-slots (p ∷ ps) s (suc k) = given-slots ps s.1 k

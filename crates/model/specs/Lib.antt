@@ -29,5 +29,8 @@ pub mod Model
 pub mod Claim
 pub mod Said
 pub mod Instants
+pub mod Promises
+pub mod Answered
+pub mod Sessions
 mod SmallSessions
 mod ClaimExamples

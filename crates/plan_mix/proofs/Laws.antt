@@ -20,7 +20,7 @@ use Rattle.model.specs.Tick.{fill_from}
 use Rattle.model.proofs.FillFrom.{fill-length}
 use Rattle.plan_slews.specs.Put.{aux_free, still, new_start}
 use Rattle.lanes16.specs.Told.{Withs}
-use Rattle.plan_mix.specs.Mixed.{Between, Apart, Beside, aux_by, slew_by}
+use Rattle.plan_mix.specs.Mixed.{Between, Apart, aux_by, slew_by}
 
 pub never : {A : Type 0} → false ≡ true → A
 never h = let z : ◌≡◌ {A = ℕ} 0 1 = cc in absurd (omega arith)

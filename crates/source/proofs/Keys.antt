@@ -1,14 +1,13 @@
 -- Laws of keys that proofs cite in place of the definitions' text. Assumes nothing.
 use mathlib.Core.Path.{◌≡◌, refl, ap, ◌∙◌}
-use mathlib.Core.Bool.{Bool, true, false, ◌&&◌}
-use mathlib.Core.List.{List, [], ◌∷◌, ◌++◌, append_assoc}
+use mathlib.Core.Bool.{false, ◌&&◌}
+use mathlib.Core.List.{List, ◌++◌, append_assoc}
 use Prim.Native.Nat.{ℕ, suc, ◌+◌, ◌-◌, ◌≤◌, ◌<◌}
 use native.Mathlib.Numerals.{add-one}
 use native.Mathlib.Omega.{arith}
 use lib.Dec.{eqb}
 use lib.ListN.{length, get_or, take, drop, set, replicate, length-take}
-use lib.Seq.{drop-cons, drop-length, length-take-le, take-length, take-suc, set_at, get_or-take}
-use borrow.Author.Tests.{eqb-true, eq-eqb}
+use lib.Seq.{length-take-le, take-length, take-suc, set_at, get_or-take}
 use Rattle.source_key.specs.Bytes.{same_bytes}
 use Rattle.source_key.proofs.Bytes.{same-lengths, same_from}
 use Rattle.state.specs.declared.Source.{Source}

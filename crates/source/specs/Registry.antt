@@ -1,16 +1,13 @@
 -- The registry of sources: its entries, "numbered from 0 in order of adding" (document 01, Source entry; source.rs
 -- 171-213, 326-346). Definitions only.
-use Rattle.std.specs.Prelude.{Bool, true, false, cond, List, [], ◌∷◌, ℕ, zero, suc, ◌+◌, min, eqb, ltb, leb, length, take, get_or, set, replicate}
+use Rattle.std.specs.Prelude.{Bool, true, false, cond, List, [], ◌∷◌, ℕ, zero, suc, ◌+◌, eqb, ltb, leb, length, take, get_or, set, replicate}
 use Rattle.refusal.specs.Judge.{Row, ◌when◌, judged}
 use Rattle.reply.specs.Reply.{Reply, accepts, refuses, by_rows}
 use Rattle.config.specs.Sizes.{most_sources}
 use Rattle.state.specs.Registry.{source_count, no_source as blankEntry}
 use Rattle.state.specs.declared.Kind.{Kind}
-use Rattle.state.specs.declared.Kind.TheVariants as K
 use Rattle.state.specs.declared.Scope.{Scope}
-use Rattle.state.specs.declared.Scope.TheVariants as S
 use Rattle.state.specs.declared.Range.{Range}
-use Rattle.state.specs.declared.Range.TheVariants as R
 use Rattle.state.specs.declared.Source.{Source}
 use Rattle.state.specs.declared.Sources.{Sources}
 use Rattle.source.specs.declared.SourceAdded.{SourceAdded}

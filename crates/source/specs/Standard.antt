@@ -3,7 +3,6 @@
 use Rattle.std.specs.Prelude.{Bool, true, false, cond, ◌&&◌, ◌||◌, List, [], ◌∷◌, ℕ, zero, suc, ◌+◌, ◌*◌, eqb, ltb, leb, length, take, drop}
 use Rattle.refusal.specs.Judge.{Row, ◌when◌, judged}
 use Rattle.config.specs.Sizes.{most_sources}
-use Rattle.state.specs.declared.Kind.{Kind}
 use Rattle.state.specs.declared.Kind.TheVariants as K
 use Rattle.state.specs.declared.Sources.{Sources}
 use Rattle.source.specs.declared.SourceInfo.{SourceInfo}

@@ -6,7 +6,6 @@ use Rattle.state.specs.declared.Kind.TheVariants as K
 use Rattle.state.specs.declared.Scope.TheVariants as S
 use Rattle.state.specs.declared.Range.TheVariants as R
 use Rattle.state.specs.declared.Source.{Source}
-use Rattle.state.specs.declared.Sources.{Sources}
 use Rattle.source.specs.declared.Counts.{Counts}
 use Rattle.source.specs.declared.SourceFound.{SourceFound}
 use Rattle.source.specs.declared.SourceFound.TheVariants as F

@@ -3,6 +3,8 @@
 
 ghost use Rattle.std.specs.Prelude.{◌<◌};
 
+use std::alloc::AllocError;
+
 // none where the session is over, else one less
 fn fewer(left: u64, code: u8, done: bool) -> u64
     requires { 0 < left }
@@ -67,28 +69,29 @@ fn run(
     trace_dispatch::end(s, r.failed, r.number, rt, out);
 }
 
-// The same on arrays.
+// The same on arrays, and on the large memories.
 fn run_on(
     rt: HostRuntime,
     input: &mut [u8; 65536],
     out: &mut [u8; 65536],
     book: &mut [usize; trace_dispatch::BOOK],
-    desk: &mut [f32; trace_dispatch::DESK],
-    values: &mut [f32; trace_dispatch::VALUES],
-    audio: &mut [f32; trace_dispatch::AUDIO],
-    pool: &mut [f32; trace_dispatch::POOL],
+    desk: &mut [f32],
+    values: &mut [f32],
+    audio: &mut [f32],
+    pool: &mut [f32],
 ) {
     run(rt, input, out, book, desk, values, audio, pool);
 }
 
-fn main(rt: HostRuntime) {
+fn main(rt: HostRuntime) -> Result<(), AllocError> {
+    let alloc = rt.alloc();
     let mut input = [0u8; 65536];
     let mut out = [0u8; 65536];
     let mut book = [0usize; trace_dispatch::BOOK];
-    let mut desk = [0.0f32; trace_dispatch::DESK];
-    let mut values = [0.0f32; trace_dispatch::VALUES];
-    let mut audio = [0.0f32; trace_dispatch::AUDIO];
-    let mut pool = [0.0f32; trace_dispatch::POOL];
+    let mut desk = vec![in alloc; 0.0f32; trace_dispatch::DESK]?;
+    let mut values = vec![in alloc; 0.0f32; trace_dispatch::VALUES]?;
+    let mut audio = vec![in alloc; 0.0f32; trace_dispatch::AUDIO]?;
+    let mut pool = vec![in alloc; 0.0f32; trace_dispatch::POOL]?;
     run_on(
         rt,
         &mut input,
@@ -99,4 +102,5 @@ fn main(rt: HostRuntime) {
         &mut audio,
         &mut pool,
     );
+    Ok(())
 }

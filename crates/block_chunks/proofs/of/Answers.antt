@@ -1,6 +1,5 @@
 -- `block_chunks::of` meets its contract.
 use Rattle.model.specs.Chunks.{chunk_of}
-use borrow.Author.Rules.{rules}
 use Rattle.block_chunks.proofs.of.Goals as goal
 
 pub returns : goal.returns

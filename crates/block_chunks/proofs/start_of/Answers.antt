@@ -1,7 +1,6 @@
 -- `block_chunks::start_of` meets its contract.
 use mathlib.Core.Path.{sym}
 use native.Mathlib.Omega.{arith}
-use borrow.Author.Rules.{rules}
 use Rattle.block_chunks.proofs.Chunks.{inside, start_first, start-later}
 use Rattle.block_chunks.proofs.start_of.Goals as goal
 

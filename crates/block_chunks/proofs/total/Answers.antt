@@ -2,7 +2,6 @@
 use mathlib.Core.Path.{sym, ◌∙◌}
 use native.Mathlib.Omega.{arith}
 use Rattle.block_chunks.proofs.Chunks.{total-empty, total-nonempty}
-use borrow.Author.Rules.{rules}
 use Rattle.block_chunks.proofs.total.Goals as goal
 
 pub returns-then-end-start : goal.returns-then-end-start

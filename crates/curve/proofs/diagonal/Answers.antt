@@ -1,11 +1,10 @@
-use mathlib.Core.Path.{◌≡◌, refl, ◌∙◌}
-use Prim.Native.Nat.{ℕ, ◌-◌, ◌≤◌, ◌<◌}
+use mathlib.Core.Path.{refl, ◌∙◌}
 use native.Mathlib.Omega.{arith}
 use borrow.Author.Rules.{rules}
 use lib.Dec.{le→leb}
-use lib.ListN.{length, get_or, length-set}
-use lib.Ieee.{nan, in_float, of_bits}
-use Rattle.curve_table.specs.Table.{diagonal_at, points}
+use lib.ListN.{length-set}
+use lib.Ieee.{in_float, of_bits}
+use Rattle.curve_table.specs.Table.{diagonal_at}
 use Rattle.curve.specs.CurveCalls.{diagonal_table}
 use Rattle.curve_table.proofs.Stored.{stored, all-stored}
 use Rattle.curve.proofs.diagonal.Goals as goal

@@ -1,7 +1,6 @@
 -- `curve::lookup` meets its contract.
 use mathlib.Core.Path.{sym, ◌∙◌}
 use native.Mathlib.Omega.{arith}
-use borrow.Author.Rules.{rules}
 use lib.Ieee.{of_bits}
 use Rattle.curve_table.proofs.Laws.{accepted-length}
 use Rattle.curve.proofs.Laws.{lookup-accepted, lookup-refused}

@@ -1,6 +1,5 @@
 -- `curve::slew` meets its contract.
 use mathlib.Core.Path.{sym, ◌∙◌}
-use borrow.Author.Rules.{rules}
 use lib.Ieee.{of_bits}
 use Rattle.curve.proofs.Laws.{slew-accepted, slew-refused}
 use Rattle.curve.proofs.slew.Goals as goal

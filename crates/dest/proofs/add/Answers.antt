@@ -3,7 +3,6 @@ use mathlib.Core.Path.{sym, ◌∙◌}
 use native.Mathlib.Omega.{arith}
 use Rattle.dest.specs.Adding.{appended}
 use Rattle.dest.proofs.Added.{accepted, add-accepted, add-refused}
-use borrow.Author.Rules.{rules}
 use Rattle.dest.proofs.add.Goals as goal
 
 pub returns-then-code-ne0 : goal.returns-then-code-ne0

@@ -3,7 +3,6 @@ use mathlib.Core.Path.{sym, ap, ◌∙◌}
 use native.Mathlib.Omega.{arith}
 use Rattle.dest.specs.Entries.{is_found}
 use Rattle.dest.proofs.Added.{bounds-bad, bounds-good, code-9, code-10, code-11, code-12, code-0}
-use borrow.Author.Rules.{rules}
 use Rattle.dest.proofs.add_code.Goals as goal
 
 pub returns-then-is_found : goal.returns-then-is_found

@@ -1,7 +1,6 @@
 -- `dest::feeds_no_slot` meets its contract.
 use mathlib.Core.Path.{sym, ap}
 use Rattle.dest.specs.Adding.{bad_slot}
-use borrow.Author.Rules.{rules}
 use Rattle.dest.proofs.feeds_no_slot.Goals as goal
 
 pub returns-in-Amount : goal.returns-in-Amount

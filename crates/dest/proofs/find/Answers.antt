@@ -1,10 +1,9 @@
 use mathlib.Core.Path.{◌≡◌, sym, ◌∙◌}
-use Prim.Native.Nat.{◌≤◌, ◌-◌}
 use native.Mathlib.Omega.{arith}
 use borrow.Author.Rules.{rules}
 use lib.ListN.{length}
 use Rattle.config.specs.Sizes.{most_destinations}
-use Rattle.dest.proofs.Search.{length-mapped, unread, SearchedTo, searched-none, searched-here, searched-next, searched-all}
+use Rattle.dest.proofs.Search.{length-mapped, unread, searched-none, searched-here, searched-next, searched-all}
 use Rattle.dest.proofs.Replies.{find-said}
 use Rattle.dest.proofs.find.Goals as goal
 

@@ -1,6 +1,5 @@
 -- `dest::is_empty` meets its contract.
 use Rattle.dest.specs.Entries.{dests_empty}
-use borrow.Author.Rules.{rules}
 use Rattle.dest.proofs.is_empty.Goals as goal
 
 pub returns : goal.returns

@@ -4,7 +4,6 @@ use borrow.Author.Tests.{not-true, not-false}
 use Rattle.model.specs.NoteCalls.{voice_row}
 use Rattle.engine_reads.proofs.Calls.{same_code, voice-most, at-refused, at_none, at-past, at_value}
 use Rattle.engine_reads.proofs.Spots.{bounds}
-use borrow.Author.Rules.{rules}
 use Rattle.engine_reads.proofs.at.Goals as goal
 
 pub returns-then-code-ne0 : goal.returns-then-code-ne0

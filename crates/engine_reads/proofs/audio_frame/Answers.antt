@@ -6,7 +6,6 @@ use Rattle.engine_reads.proofs.Spots.{bounds}
 use Prim.Native.Nat.{ℕ, ◌+◌}
 use Rattle.list.specs.Part.{part}
 use Rattle.engine_reads.proofs.PartsRead.{both, no-frame-short, no-frame, frame_past, frame_is}
-use borrow.Author.Rules.{rules}
 use Rattle.engine_reads.proofs.audio_frame.Goals as goal
 
 pub returns-then-audio_short : goal.returns-then-audio_short

@@ -3,7 +3,6 @@ use mathlib.Core.Path.{sym, ◌∙◌}
 use borrow.Author.Tests.{not-true, not-false}
 use Rattle.engine_reads.proofs.Spots.{bounds}
 use Rattle.engine_reads.proofs.PartsRead.{both, no-audio-short, no-audio, audio-part-is}
-use borrow.Author.Rules.{rules}
 use Rattle.engine_reads.proofs.audio_part.Goals as goal
 
 pub returns-then-audio_short : goal.returns-then-audio_short

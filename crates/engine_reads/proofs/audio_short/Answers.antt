@@ -1,5 +1,4 @@
 -- `engine_reads::audio_short` meets its contract.
-use borrow.Author.Rules.{rules}
 use Rattle.engine_reads.proofs.audio_short.Goals as goal
 
 pub returns : goal.returns

@@ -4,7 +4,6 @@ use native.Mathlib.Omega.{arith}
 use borrow.Author.Tests.{lt-ltb, le-ltb}
 use Rattle.model.specs.Chunks.{chunk_total}
 use Rattle.model.specs.Outputs.{chunk_at}
-use borrow.Author.Rules.{rules}
 use Rattle.engine_reads.proofs.chunk_at.Goals as goal
 
 pub returns-then-total-i : goal.returns-then-total-i

@@ -1,6 +1,5 @@
 -- `engine_reads::chunk_count` meets its contract.
 use Rattle.model.specs.Outputs.{chunk_count}
-use borrow.Author.Rules.{rules}
 use Rattle.engine_reads.proofs.chunk_count.Goals as goal
 
 pub returns : goal.returns

@@ -4,7 +4,6 @@ use native.Mathlib.Omega.{arith}
 use borrow.Author.Tests.{le-leb, lt-leb}
 use Rattle.config.specs.Sizes.{most_voices}
 use Rattle.refusal.specs.Judge.{judged}
-use borrow.Author.Rules.{rules}
 use Rattle.engine_reads.proofs.code.Goals as goal
 
 pub returns-then-voice_count-voice : goal.returns-then-voice_count-voice

@@ -4,7 +4,6 @@ use borrow.Author.Tests.{not-true, not-false}
 use Rattle.engine_reads.proofs.Spots.{bounds}
 use Rattle.engine_reads.proofs.PartsRead.{both, no-from-short, no-from, from-part-is}
 use Rattle.model.specs.Outputs.{chunk_count}
-use borrow.Author.Rules.{rules}
 use Rattle.engine_reads.proofs.from_part.Goals as goal
 
 pub returns-then-values_short : goal.returns-then-values_short

@@ -3,7 +3,6 @@ use native.Mathlib.Omega.{arith}
 use Rattle.config.specs.Sizes.{slots, most_frames, most_stride, most_chunks}
 use Rattle.layout.proofs.Bounds.{product-bound}
 use Rattle.model.specs.Layout.{plan_size}
-use borrow.Author.Rules.{rules}
 use Rattle.engine_reads.proofs.from_start.Goals as goal
 
 pub overflow_mul-result : goal.overflow_mul-result

@@ -1,6 +1,5 @@
 -- `engine_reads::is_on` meets its contract.
 use borrow.Author.Tests.{lt-ltb, le-ltb}
-use borrow.Author.Rules.{rules}
 use Rattle.engine_reads.proofs.is_on.Goals as goal
 
 pub returns-then-v-voices : goal.returns-then-v-voices

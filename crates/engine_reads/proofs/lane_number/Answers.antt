@@ -3,7 +3,6 @@ use mathlib.Core.Path.{sym, ◌∙◌}
 use native.Mathlib.Omega.{arith}
 use Rattle.engine_reads.specs.Latest.{lane_number}
 use Rattle.engine_reads.proofs.Latests.{on_below}
-use borrow.Author.Rules.{rules}
 use Rattle.engine_reads.proofs.lane_number.Goals as goal
 
 pub number_of-requires : goal.number_of-requires

@@ -1,6 +1,5 @@
 -- `engine_reads::last_of` meets its contract.
 use Rattle.engine_reads.proofs.Latests.{last_none, last_some}
-use borrow.Author.Rules.{rules}
 use Rattle.engine_reads.proofs.last_of.Goals as goal
 
 pub returns-then-chunks-eq0 : goal.returns-then-chunks-eq0

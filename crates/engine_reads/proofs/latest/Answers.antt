@@ -9,7 +9,6 @@ use Rattle.model.specs.Chunks.{chunk_total}
 use Rattle.model.specs.Outputs.{chunk_count}
 use Rattle.engine_reads.proofs.Calls.{same_code, voice-most, latest-refused, latest-empty, latest-none, latest-audio, latest-control}
 use Rattle.engine_reads.proofs.Spots.{bounds}
-use borrow.Author.Rules.{rules}
 use Rattle.engine_reads.proofs.latest.Goals as goal
 
 pub returns-then-code-ne0 : goal.returns-then-code-ne0

@@ -8,7 +8,6 @@ use Rattle.feed.specs.Numbers.{up_from}
 use Rattle.list.specs.Part.{on_part}
 use Rattle.model.specs.Outputs.{Written, latest_rows}
 use Rattle.engine_reads.proofs.Latests.{all_short, all-no-room, all-written}
-use borrow.Author.Rules.{rules}
 use Rattle.engine_reads.proofs.latest_all.Goals as goal
 
 pub returns-then-short : goal.returns-then-short

@@ -6,7 +6,6 @@ use lib.Ieee.{Float, nan}
 use lib.ListN.{length, get_or}
 use Rattle.list.proofs.Elements.{get_or_past}
 use Rattle.engine_reads.proofs.Memory.{rows-past, rows-within}
-use borrow.Author.Rules.{rules}
 use Rattle.engine_reads.proofs.number_at.Goals as goal
 
 pub returns-then-mem-width : goal.returns-then-mem-width

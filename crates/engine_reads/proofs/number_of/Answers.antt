@@ -5,7 +5,6 @@ use native.Mathlib.Omega.{arith}
 use lib.Ieee.{nan}
 use lib.ListN.{get_or}
 use Rattle.engine_reads.proofs.Spots.{lane-most}
-use borrow.Author.Rules.{rules}
 use Rattle.engine_reads.proofs.number_of.Goals as goal
 
 pub number_at-requires : goal.number_at-requires

@@ -1,6 +1,5 @@
 -- `engine_reads::out_short` meets its contract.
 use Rattle.engine_reads.proofs.Latests.{room-is, no_room}
-use borrow.Author.Rules.{rules}
 use Rattle.engine_reads.proofs.out_short.Goals as goal
 
 pub returns-then-dests-eq0 : goal.returns-then-dests-eq0

@@ -2,7 +2,6 @@
 use mathlib.Core.Path.{sym, ◌∙◌}
 use Rattle.engine_reads.specs.Spot.{spot_of}
 use Rattle.model.specs.Outputs.{output_of, chunk_count}
-use borrow.Author.Rules.{rules}
 use Rattle.engine_reads.proofs.output.Goals as goal
 
 pub returns-then-short : goal.returns-then-short

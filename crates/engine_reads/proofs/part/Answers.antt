@@ -3,7 +3,6 @@ use mathlib.Core.Path.{refl, sym}
 use native.Mathlib.Omega.{arith}
 use Rattle.list.specs.Part.{part}
 use Rattle.engine_reads.proofs.Memory.{part-past, part_to_end}
-use borrow.Author.Rules.{rules}
 use Rattle.engine_reads.proofs.part.Goals as goal
 
 pub returns-then-len-a : goal.returns-then-len-a

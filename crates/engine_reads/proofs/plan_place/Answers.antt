@@ -1,12 +1,11 @@
 use borrow.Author.Rules.{rules}
 use mathlib.Core.Path.{◌≡◌, sym}
-use Prim.Native.Nat.{◌≤◌, ◌-◌}
 use native.Mathlib.Omega.{arith}
 use lib.ListN.{length, take}
 use Rattle.config.specs.Sizes.{slots}
 use Rattle.list.proofs.Elements.{length-mapped}
 use Rattle.state_filled.proofs.Stored.{stored-from, stored-end}
-use Rattle.engine_reads.proofs.Plans.{Others, others-none, plan-here, others-next, no-plan}
+use Rattle.engine_reads.proofs.Plans.{others-none, plan-here, others-next, no-plan}
 use Rattle.engine_reads.proofs.plan_place.Goals as goal
 
 pub loop-i-init : goal.loop-i-init

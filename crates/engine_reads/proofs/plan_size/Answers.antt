@@ -4,7 +4,6 @@ use Prim.Native.Nat.{◌+◌, ◌*◌}
 use native.Mathlib.Omega.{arith}
 use Rattle.config.specs.Sizes.{most_frames, most_stride, most_chunks}
 use Rattle.layout.proofs.Bounds.{product-bound}
-use borrow.Author.Rules.{rules}
 use Rattle.engine_reads.proofs.plan_size.Goals as goal
 
 pub overflow_mul-result-2 : goal.overflow_mul-result-2

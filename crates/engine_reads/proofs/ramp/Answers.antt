@@ -11,7 +11,6 @@ use Rattle.model.specs.Outputs.{RampWritten, ramp_length}
 use Rattle.engine_reads.proofs.Calls.{same_code, voice-most}
 use Rattle.engine_reads.proofs.Spots.{bounds}
 use Rattle.engine_reads.proofs.Ramps.{frame_number, ramp-refused, ramp-room, ramp-none, ramp-filled}
-use borrow.Author.Rules.{rules}
 use Rattle.engine_reads.proofs.ramp.Goals as goal
 
 pub returns-then-code-ne0 : goal.returns-then-code-ne0

@@ -1,7 +1,6 @@
 -- `engine_reads::ramp_at` meets its contract.
 use Rattle.engine_reads.proofs.Ramps.{ramp-at-is}
 use lib.Ieee.{of_bits}
-use borrow.Author.Rules.{rules}
 use Rattle.engine_reads.proofs.ramp_at.Goals as goal
 
 pub returns : goal.returns

@@ -1,6 +1,5 @@
 -- `engine_reads::ramp_number` meets its contract.
 use Rattle.engine_reads.specs.Ramp.{ramp_number}
-use borrow.Author.Rules.{rules}
 use Rattle.engine_reads.proofs.ramp_number.Goals as goal
 
 pub returns : goal.returns

@@ -2,7 +2,6 @@
 use native.Mathlib.Omega.{arith}
 use Rattle.config.specs.Sizes.{most_frames, most_stride}
 use Rattle.layout.proofs.Bounds.{product-bound}
-use borrow.Author.Rules.{rules}
 use Rattle.engine_reads.proofs.row_start.Goals as goal
 
 pub overflow_mul-result : goal.overflow_mul-result

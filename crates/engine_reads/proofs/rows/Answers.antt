@@ -4,7 +4,6 @@ use Prim.Native.Nat.{◌*◌}
 use native.Mathlib.Omega.{arith}
 use lib.ListN.{length}
 use Rattle.engine_reads.proofs.Memory.{rows-past, rows-within, parts-to-end}
-use borrow.Author.Rules.{rules}
 use Rattle.engine_reads.proofs.rows.Goals as goal
 
 pub returns-then-mem-width : goal.returns-then-mem-width

@@ -3,7 +3,6 @@ use Prim.Native.Nat.{◌*◌, ◌≤◌}
 use native.Mathlib.Omega.{arith}
 use Rattle.config.specs.Sizes.{slots, most_frames, most_stride}
 use Rattle.layout.proofs.Bounds.{product-bound}
-use borrow.Author.Rules.{rules}
 use Rattle.engine_reads.proofs.rows_start.Goals as goal
 
 pub overflow_mul-result : goal.overflow_mul-result

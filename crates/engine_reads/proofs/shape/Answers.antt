@@ -1,5 +1,4 @@
 -- `engine_reads::shape` meets its contract.
-use borrow.Author.Rules.{rules}
 use Rattle.engine_reads.proofs.shape.Goals as goal
 
 pub returns-then-spot : goal.returns-then-spot

@@ -1,6 +1,5 @@
 -- `engine_reads::short` meets its contract.
 use mathlib.Core.Path.{sym, ◌∙◌}
-use borrow.Author.Rules.{rules}
 use Rattle.engine_reads.proofs.short.Goals as goal
 
 pub returns-then-values_short : goal.returns-then-values_short

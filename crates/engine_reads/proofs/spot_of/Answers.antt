@@ -1,6 +1,5 @@
 -- `engine_reads::spot_of` meets its contract.
 use Rattle.engine_reads.proofs.Spots.{spot_is}
-use borrow.Author.Rules.{rules}
 use Rattle.engine_reads.proofs.spot_of.Goals as goal
 
 pub returns : goal.returns

@@ -5,7 +5,6 @@ use Rattle.model.specs.NoteCalls.{voice_row}
 use Rattle.engine_reads.proofs.Calls.{same_code, voice-most, value-refused, value_none, value-past, value-value}
 use Rattle.engine_reads.proofs.Spots.{bounds}
 use Rattle.model.specs.Outputs.{chunk_count}
-use borrow.Author.Rules.{rules}
 use Rattle.engine_reads.proofs.value.Goals as goal
 
 pub returns-then-code-ne0 : goal.returns-then-code-ne0

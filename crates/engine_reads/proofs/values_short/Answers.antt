@@ -1,5 +1,4 @@
 -- `engine_reads::values_short` meets its contract.
-use borrow.Author.Rules.{rules}
 use Rattle.engine_reads.proofs.values_short.Goals as goal
 
 pub returns : goal.returns

@@ -1,9 +1,6 @@
-use Prim.Native.Nat.{◌≤◌, ◌-◌}
 use native.Mathlib.Omega.{arith}
 use borrow.Author.Rules.{rules}
-use lib.ListN.{length}
-use Rattle.list.proofs.Filled.{Filled, filled_none, filled_more, filled-all}
-use Rattle.engine_reads.specs.Latest.{lane_number}
+use Rattle.list.proofs.Filled.{filled_none, filled_more, filled-all}
 use Rattle.engine_reads.proofs.write_lanes.Goals as goal
 
 pub loop-v-init : goal.loop-v-init

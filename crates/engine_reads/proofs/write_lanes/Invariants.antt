@@ -1,9 +1,7 @@
 -- `engine_reads::write_lanes` meets its contract.
 use Prim.Native.Nat.{◌≤◌, ◌-◌}
-use native.Mathlib.Omega.{arith}
-use borrow.Author.Rules.{rules}
 use lib.ListN.{length}
-use Rattle.list.proofs.Filled.{Filled, filled_none, filled_more, filled-all}
+use Rattle.list.proofs.Filled.{Filled}
 use Rattle.engine_reads.specs.Latest.{lane_number}
 use Rattle.engine_reads.proofs.write_lanes.Given as goal
 

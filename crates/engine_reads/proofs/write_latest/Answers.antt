@@ -2,7 +2,6 @@
 use mathlib.Core.Path.{◌∙◌}
 use borrow.Author.Tests.{not-true, not-false}
 use Rattle.engine_reads.proofs.Latests.{by-none, by-audio, by-control, by-neither}
-use borrow.Author.Rules.{rules}
 use Rattle.engine_reads.proofs.write_latest.Goals as goal
 
 pub returns-then-not-last : goal.returns-then-not-last

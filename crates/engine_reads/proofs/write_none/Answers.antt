@@ -3,7 +3,6 @@ use mathlib.Core.Path.{sym, ap, ◌∙◌}
 use lib.Ieee.{nan}
 use lib.ListN.{length, replicate}
 use Rattle.list.proofs.Filled.{fill-replicate}
-use borrow.Author.Rules.{rules}
 use Rattle.engine_reads.proofs.write_none.Goals as goal
 
 pub returns : goal.returns

@@ -1,8 +1,6 @@
-use Prim.Native.Nat.{ℕ, ◌+◌, ◌≤◌, ◌-◌}
 use native.Mathlib.Omega.{arith}
 use borrow.Author.Rules.{rules}
-use Rattle.list.proofs.Filled.{Filled, filled_none, filled_more, filled-all}
-use Rattle.engine_reads.specs.Ramp.{ramp_number}
+use Rattle.list.proofs.Filled.{filled_none, filled_more, filled-all}
 use Rattle.engine_reads.proofs.write_ramp.Goals as goal
 
 pub loop-k-init : goal.loop-k-init

@@ -1,8 +1,6 @@
 -- `engine_reads::write_ramp` meets its contract.
 use Prim.Native.Nat.{ℕ, ◌+◌, ◌≤◌, ◌-◌}
-use native.Mathlib.Omega.{arith}
-use borrow.Author.Rules.{rules}
-use Rattle.list.proofs.Filled.{Filled, filled_none, filled_more, filled-all}
+use Rattle.list.proofs.Filled.{Filled}
 use Rattle.engine_reads.specs.Ramp.{ramp_number}
 use Rattle.engine_reads.proofs.write_ramp.Given as goal
 

@@ -6,7 +6,6 @@ use Rattle.list.specs.Part.{part, on_part}
 use Rattle.list.proofs.Parts.{part_length}
 use Rattle.engine_reads.proofs.Spots.{bounds}
 use Rattle.engine_reads.proofs.Latests.{row_is}
-use borrow.Author.Rules.{rules}
 use Rattle.engine_reads.proofs.write_row.Goals as goal
 
 pub write_latest-requires : goal.write_latest-requires

@@ -1,9 +1,8 @@
 use mathlib.Core.Path.{refl}
-use Prim.Native.Nat.{◌<◌, ◌≤◌, ◌-◌}
+use Prim.Native.Nat.{◌<◌}
 use lib.ListN.{length}
 use native.Mathlib.Omega.{arith}
-use borrow.Author.Rules.{rules}
-use Rattle.engine_reads.proofs.Latests.{Rows, rows_none, rows_more, rows_all, row_ends}
+use Rattle.engine_reads.proofs.Latests.{rows_none, rows_more, rows_all, row_ends}
 use Rattle.engine_reads.proofs.write_rows.Goals as goal
 
 pub loop-d-init : goal.loop-d-init

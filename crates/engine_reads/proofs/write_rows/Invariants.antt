@@ -1,10 +1,6 @@
 -- `engine_reads::write_rows` meets its contract.
-use mathlib.Core.Path.{refl}
-use Prim.Native.Nat.{◌<◌, ◌≤◌, ◌-◌}
-use lib.ListN.{length}
-use native.Mathlib.Omega.{arith}
-use borrow.Author.Rules.{rules}
-use Rattle.engine_reads.proofs.Latests.{Rows, rows_none, rows_more, rows_all, row_ends}
+use Prim.Native.Nat.{◌≤◌, ◌-◌}
+use Rattle.engine_reads.proofs.Latests.{Rows}
 use Rattle.engine_reads.proofs.write_rows.Given as goal
 
 abbrev pub invariant-loop-d : goal.invariant-loop-d

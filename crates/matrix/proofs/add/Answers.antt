@@ -1,6 +1,5 @@
 -- `matrix::add` meets its contract.
 use Rattle.matrix.proofs.Replies.{add-said}
-use borrow.Author.Rules.{rules}
 use Rattle.matrix.specs.Edits.{add_route}
 use Rattle.matrix.proofs.add.Goals as goal
 

@@ -1,6 +1,5 @@
 -- `matrix::create_velocity_to_amp` meets its contract.
 use Rattle.matrix.specs.Routes.{create_velocity_to_amp}
-use borrow.Author.Rules.{rules}
 use Rattle.matrix.proofs.create_velocity_to_amp.Goals as goal
 
 pub returns : goal.returns

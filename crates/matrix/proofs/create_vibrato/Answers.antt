@@ -3,10 +3,8 @@ use Prim.Native.Nat.{◌<◌}
 use native.Mathlib.Omega.{arith}
 use lib.ListN.{length}
 use mathlib.Core.Path.{sym, ◌∙◌}
-use borrow.Author.Tests.{not-true, not-false}
 use Rattle.matrix.proofs.Laws.{vibrato-refused, vibrato-none, vibrato-made}
 use Rattle.matrix.proofs.Replies.{vibrato-said}
-use borrow.Author.Rules.{rules}
 use Rattle.matrix.proofs.create_vibrato.Goals as goal
 
 pub returns-then-not-is_finite : goal.returns-then-not-is_finite

@@ -2,7 +2,6 @@
 use mathlib.Core.Path.{◌∙◌}
 use Rattle.matrix.proofs.Laws.{drag-made}
 use Rattle.matrix.proofs.Replies.{drag-said}
-use borrow.Author.Rules.{rules}
 use Rattle.matrix.proofs.drag.Goals as goal
 
 pub returns : goal.returns

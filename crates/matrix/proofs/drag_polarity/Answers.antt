@@ -1,8 +1,6 @@
 -- `matrix::drag_polarity` meets its contract.
 use mathlib.Core.Path.{sym, ◌∙◌}
-use borrow.Author.Tests.{not-true, not-false}
 use Rattle.matrix.proofs.Laws.{polarity-refused, polarity-made}
-use borrow.Author.Rules.{rules}
 use Rattle.matrix.proofs.drag_polarity.Goals as goal
 
 pub returns-then-not-is_finite : goal.returns-then-not-is_finite

@@ -1,9 +1,7 @@
 -- `matrix::limit_depth` meets its contract.
 use mathlib.Core.Path.{sym, ◌∙◌}
-use borrow.Author.Tests.{not-true, not-false}
 use lib.Ieee.{of_bits}
 use Rattle.matrix.proofs.Laws.{depth-refused, depth-made}
-use borrow.Author.Rules.{rules}
 use Rattle.matrix.proofs.limit_depth.Goals as goal
 
 pub returns-then-not-both_finite : goal.returns-then-not-both_finite

@@ -1,7 +1,5 @@
 -- `matrix::load` meets its contract.
 use mathlib.Core.Path.{sym, ◌∙◌}
-use borrow.Author.Rules.{rules}
-use borrow.Author.Tests.{not-true, not-false}
 use Rattle.matrix.proofs.Laws.{load-barred, load-plain, load-short, load-other-short, load-named}
 use Rattle.matrix.proofs.load.Goals as goal
 

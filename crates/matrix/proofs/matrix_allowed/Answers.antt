@@ -1,7 +1,5 @@
 -- `matrix::matrix_allowed` meets its contract.
 use mathlib.Core.Path.{sym, ◌∙◌}
-use borrow.Author.Tests.{not-true, not-false}
-use borrow.Author.Rules.{rules}
 use Rattle.matrix.specs.Edits.{matrix_allowed}
 use Rattle.matrix.proofs.matrix_allowed.Goals as goal
 

@@ -1,5 +1,4 @@
 -- `matrix::new` meets its contract.
-use borrow.Author.Rules.{rules}
 use Rattle.slots.specs.Matrix.{new_matrix}
 use Rattle.matrix.proofs.new.Goals as goal
 

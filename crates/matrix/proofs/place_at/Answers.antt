@@ -1,5 +1,4 @@
 -- `matrix::place_at` meets its contract.
-use borrow.Author.Rules.{rules}
 use borrow.Author.Tests.{eq-eqb, ne_eqb, lt-ltb, le-ltb}
 use Rattle.slots.specs.Matrix.{with_slots, with_slot}
 use Rattle.matrix.specs.Edits.{placed}

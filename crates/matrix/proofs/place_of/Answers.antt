@@ -1,6 +1,5 @@
 -- `matrix::place_of` meets its contract.
 use mathlib.Core.Path.{sym, ap, ◌∙◌}
-use borrow.Author.Rules.{rules}
 use Rattle.matrix.specs.Which.{place_of}
 use Rattle.matrix.proofs.place_of.Goals as goal
 

@@ -1,5 +1,4 @@
 -- `matrix::remove` meets its contract.
-use borrow.Author.Rules.{rules}
 use Rattle.matrix.specs.Edits.{edited, remove_slot}
 use Rattle.matrix.proofs.remove.Goals as goal
 

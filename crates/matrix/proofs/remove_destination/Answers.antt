@@ -1,5 +1,4 @@
 -- `matrix::remove_destination` meets its contract.
-use borrow.Author.Rules.{rules}
 use Rattle.matrix.specs.Edits.{remove_destination}
 use Rattle.matrix.proofs.remove_destination.Goals as goal
 

@@ -1,5 +1,4 @@
 -- `matrix::set_amount` meets its contract.
-use borrow.Author.Rules.{rules}
 use Rattle.matrix.specs.Edits.{edited, set_slot_amount}
 use Rattle.matrix.proofs.set_amount.Goals as goal
 

@@ -1,5 +1,4 @@
 -- `matrix::set_aux` meets its contract.
-use borrow.Author.Rules.{rules}
 use Rattle.matrix.specs.Edits.{edited, set_aux}
 use Rattle.matrix.proofs.set_aux.Goals as goal
 

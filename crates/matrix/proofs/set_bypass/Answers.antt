@@ -1,5 +1,4 @@
 -- `matrix::set_bypass` meets its contract.
-use borrow.Author.Rules.{rules}
 use Rattle.matrix.specs.Edits.{edited, set_bypass}
 use Rattle.matrix.proofs.set_bypass.Goals as goal
 

@@ -1,5 +1,4 @@
 -- `matrix::set_linear` meets its contract.
-use borrow.Author.Rules.{rules}
 use Rattle.matrix.specs.Edits.{edited, set_linear}
 use Rattle.matrix.proofs.set_linear.Goals as goal
 

@@ -3,12 +3,11 @@ use mathlib.Core.Path.{sym, ap, ◌∙◌}
 use mathlib.Core.Bool.{Bool}
 use Rattle.state.specs.declared.Matrix.{Matrix}
 use Prim.Native.Nat.{ℕ}
-use borrow.Author.Rules.{rules}
 use Rattle.refusal.specs.Judge.{judged}
 use Rattle.curve_table.specs.Table.{all_allowed}
 use Rattle.slots_tables.specs.Tables.{with_table}
 use Rattle.slots_tables.specs.Rows.{table_rows}
-use Rattle.matrix.specs.Edits.{answered, tabled, set_note_curve}
+use Rattle.matrix.specs.Edits.{answered, set_note_curve}
 use Rattle.matrix.proofs.Laws.{table-rows-accepted, tabled-refused, tabled-accepted}
 use Rattle.matrix.proofs.set_note_curve.Goals as goal
 

@@ -1,5 +1,4 @@
 -- `matrix::set_note_linear` meets its contract.
-use borrow.Author.Rules.{rules}
 use Rattle.matrix.specs.Edits.{set_note_linear}
 use Rattle.matrix.proofs.set_note_linear.Goals as goal
 

@@ -1,5 +1,4 @@
 -- `matrix::set_output` meets its contract.
-use borrow.Author.Rules.{rules}
 use Rattle.matrix.specs.Edits.{edited, set_slot_output}
 use Rattle.matrix.proofs.set_output.Goals as goal
 

@@ -1,5 +1,4 @@
 -- `matrix::set_polarity` meets its contract.
-use borrow.Author.Rules.{rules}
 use Rattle.matrix.specs.Edits.{edited, set_polarity}
 use Rattle.matrix.proofs.set_polarity.Goals as goal
 

@@ -1,5 +1,4 @@
 -- `matrix::set_slot` meets its contract.
-use borrow.Author.Rules.{rules}
 use Rattle.matrix.specs.Edits.{edited, set_slot}
 use Rattle.matrix.proofs.set_slot.Goals as goal
 

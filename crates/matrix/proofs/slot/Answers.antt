@@ -1,5 +1,4 @@
 -- `matrix::slot` meets its contract.
-use borrow.Author.Rules.{rules}
 use Rattle.matrix.specs.Edits.{slot_at}
 use Rattle.matrix.proofs.slot.Goals as goal
 

@@ -1,6 +1,5 @@
 -- `matrix::slot_and_number_code` meets its contract.
 use mathlib.Core.List.{[], ◌∷◌}
-use borrow.Author.Rules.{rules}
 use lib.Dec.{leb}
 use Rattle.refusal.proofs.Laws.{judged-row}
 use Rattle.config.specs.Sizes.{slots}

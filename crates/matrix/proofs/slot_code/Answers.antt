@@ -1,5 +1,4 @@
 -- `matrix::slot_code` meets its contract.
-use borrow.Author.Rules.{rules}
 use Rattle.matrix.proofs.slot_code.Goals as goal
 
 pub returns : goal.returns

@@ -2,8 +2,6 @@
 use mathlib.Core.Path.{sym, ap, ◌∙◌}
 use mathlib.Core.Bool.{Bool}
 use mathlib.Core.List.{map}
-use borrow.Author.Rules.{rules}
-use borrow.Author.Tests.{not-true, not-false}
 use Rattle.slots.specs.Matrix.{with_slots}
 use Rattle.matrix_sorting.specs.Keys.{key_of}
 use Rattle.matrix_sorting.specs.Order.{sorted_places}

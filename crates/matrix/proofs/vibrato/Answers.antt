@@ -1,6 +1,5 @@
 -- `matrix::vibrato` meets its contract.
 use Rattle.matrix.specs.Routes.{add_vibrato}
-use borrow.Author.Rules.{rules}
 use Rattle.matrix.proofs.vibrato.Goals as goal
 
 pub returns : goal.returns

@@ -1,6 +1,5 @@
 -- `matrix::with_curve` meets its contract.
 use mathlib.Core.Path.{sym, ap, ◌∙◌}
-use borrow.Author.Rules.{rules}
 use Rattle.matrix.specs.declared.CurveSlot.{CurveSlot}
 use Rattle.matrix.specs.Which.{with_curve}
 use Rattle.matrix.proofs.with_curve.Goals as goal

@@ -1,6 +1,5 @@
 -- `matrix::with_note` meets its contract.
 use mathlib.Core.Path.{sym, ap, ◌∙◌}
-use borrow.Author.Rules.{rules}
 use Rattle.matrix.specs.declared.NoteSlot.{NoteSlot}
 use Rattle.matrix.specs.Which.{with_note}
 use Rattle.matrix.proofs.with_note.Goals as goal

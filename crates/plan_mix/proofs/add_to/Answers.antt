@@ -1,11 +1,9 @@
-use mathlib.Core.Path.{◌≡◌, refl, sym, ap, ◌∙◌}
-use Prim.Native.Nat.{ℕ, ◌+◌, ◌-◌, ◌≤◌}
+use mathlib.Core.Path.{ap}
+use Prim.Native.Nat.{◌+◌}
 use native.Mathlib.Omega.{arith}
-use lib.ListN.{length}
 use lib.Ieee.{Float}
 use Rattle.model.specs.Counts.{at}
 use Rattle.number.specs.Number.{plus}
-use Rattle.plan_mix.specs.Mixed.{Between}
 use Rattle.plan_mix.proofs.Laws.{between_none, between_more, between-end}
 use borrow.Author.Rules.{rules}
 use Rattle.plan_mix.proofs.add_to.Goals as goal

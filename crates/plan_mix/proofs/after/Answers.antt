@@ -1,5 +1,4 @@
 -- `plan_mix::after` meets its contract.
-use borrow.Author.Rules.{rules}
 use Rattle.plan_mix.proofs.after.Goals as goal
 
 pub returns-then-free : goal.returns-then-free

@@ -1,6 +1,5 @@
 -- `plan_mix::aux_place` meets its contract.
-use mathlib.Core.Path.{◌≡◌, refl, sym, ap, ◌∙◌, subst}
-use borrow.Author.Rules.{rules}
+use mathlib.Core.Path.{◌∙◌}
 use Rattle.plan_mix.proofs.aux_place.Goals as goal
 
 pub returns-in-Missing : goal.returns-in-Missing

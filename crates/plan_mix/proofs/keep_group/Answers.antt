@@ -1,11 +1,10 @@
 -- `plan_mix::keep_group` meets its contract.
-use mathlib.Core.Path.{◌≡◌, refl, sym, ap, ◌∙◌}
+use mathlib.Core.Path.{refl, ◌∙◌}
 use mathlib.Core.Bool.{false}
-use Prim.Native.Nat.{ℕ, ◌+◌, ◌≤◌}
+use Prim.Native.Nat.{◌+◌, ◌≤◌}
 use native.Mathlib.Omega.{arith}
 use Rattle.plan_mix.specs.Mixed.{slew_by}
 use Rattle.plan_mix.proofs.Laws.{two-apart, two-done, kept_by, still-none}
-use borrow.Author.Rules.{rules}
 use Rattle.plan_mix.proofs.keep_group.Goals as goal
 
 pub returns-then-still : goal.returns-then-still

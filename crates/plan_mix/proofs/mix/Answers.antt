@@ -1,6 +1,5 @@
 -- `plan_mix::mix` meets its contract.
 use Rattle.plan_sum.proofs.Steps.{tick-of}
-use borrow.Author.Rules.{rules}
 use Rattle.plan_mix.proofs.mix.Goals as goal
 
 pub returns : goal.returns

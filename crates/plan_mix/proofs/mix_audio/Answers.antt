@@ -1,7 +1,6 @@
 -- `plan_mix::mix_audio` meets its contract.
 use Rattle.plan_sum.proofs.Steps.{audio-of}
 use Rattle.model.specs.Counts.{at}
-use borrow.Author.Rules.{rules}
 use Rattle.plan_mix.proofs.mix_audio.Goals as goal
 
 pub returns : goal.returns

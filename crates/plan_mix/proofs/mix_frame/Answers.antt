@@ -1,22 +1,11 @@
 use mathlib.Core.Path.{◌≡◌, refl, sym, ap, ◌∙◌}
-use mathlib.Core.Bool.{true, false}
-use Prim.Native.Nat.{ℕ, ◌+◌, ◌-◌, ◌*◌, ◌≤◌, ◌<◌}
+use Prim.Native.Nat.{◌<◌}
 use native.Mathlib.Omega.{arith}
-use lib.ListN.{length}
-use Rattle.config.specs.Sizes.{slots}
 use Rattle.model.specs.Counts.{at}
-use Rattle.model.specs.Env.{Env, Rows, Own}
-use Rattle.model.specs.Mix.{Mix}
 use Rattle.model.specs.Sums.{others}
-use Rattle.lane_input.specs.Reads.{Works, point_of}
-use Rattle.plan_sum.specs.declared.Job.{Job}
-use Rattle.plan_sum.specs.Job.{Mixes}
-use Rattle.plan_sum.specs.Ground.{Based, Reached}
-use Rattle.plan_slews.specs.Put.{new_need, IsNew}
-use Rattle.plan_sum.proofs.Found.{From, chosen, source-from, aux-from, ground-based, one_lane, route-is}
+use Rattle.plan_sum.proofs.Found.{chosen, source-from, aux-from, ground-based, one_lane, route-is}
 use Rattle.plan_sum.proofs.Steps.{others-none, others-next}
 use Rattle.plan_mix.proofs.Routes.{new-next, stride-small, wide-lanes}
-use borrow.Author.Rules.{rules}
 use Rattle.plan_mix.proofs.mix_frame.Goals as goal
 
 pub loop-j-init : goal.loop-j-init

@@ -1,8 +1,7 @@
 -- `plan_mix::mix_frame` meets its contract. The invariant: the routes before j are done.
-use mathlib.Core.Path.{◌≡◌, refl, sym, ap, ◌∙◌}
+use mathlib.Core.Path.{◌≡◌}
 use mathlib.Core.Bool.{true, false}
-use Prim.Native.Nat.{ℕ, ◌+◌, ◌-◌, ◌*◌, ◌≤◌, ◌<◌}
-use native.Mathlib.Omega.{arith}
+use Prim.Native.Nat.{ℕ, ◌-◌, ◌≤◌, ◌<◌}
 use lib.ListN.{length}
 use Rattle.config.specs.Sizes.{slots}
 use Rattle.model.specs.Counts.{at}
@@ -14,10 +13,7 @@ use Rattle.plan_sum.specs.declared.Job.{Job}
 use Rattle.plan_sum.specs.Job.{Mixes}
 use Rattle.plan_sum.specs.Ground.{Based, Reached}
 use Rattle.plan_slews.specs.Put.{new_need, IsNew}
-use Rattle.plan_sum.proofs.Found.{From, chosen, source-from, aux-from, ground-based, one_lane, route-is}
-use Rattle.plan_sum.proofs.Steps.{others-none, others-next}
-use Rattle.plan_mix.proofs.Routes.{new-next, stride-small, wide-lanes}
-use borrow.Author.Rules.{rules}
+use Rattle.plan_sum.proofs.Found.{From}
 use Rattle.plan_mix.proofs.mix_frame.Given as goal
 
 abbrev pub invariant-loop-j : goal.invariant-loop-j

@@ -1,11 +1,8 @@
 -- `plan_mix::mix_group` meets its contract.
-use mathlib.Core.Path.{◌≡◌, refl, sym, ap, ◌∙◌}
-use Prim.Native.Nat.{ℕ, ◌+◌, ◌≤◌}
+use mathlib.Core.Path.{refl, ap, ◌∙◌}
 use native.Mathlib.Omega.{arith}
-use borrow.Author.Tests.{not-true, not-false}
 use Rattle.number.specs.Number.{plus}
 use Rattle.lanes16.specs.Told.{Snaps}
-use borrow.Author.Rules.{rules}
 use Rattle.plan_mix.proofs.mix_group.Goals as goal
 
 pub returns-then-not-on : goal.returns-then-not-on

@@ -1,9 +1,8 @@
 -- `plan_mix::mix_moving` meets its contract.
-use mathlib.Core.Path.{◌≡◌, refl, sym, ap, ◌∙◌, subst}
+use mathlib.Core.Path.{refl, ◌∙◌}
 use native.Mathlib.Omega.{arith}
 use Rattle.plan_sum.proofs.Steps.{voice-own}
 use Rattle.plan_mix.proofs.Voices.{slew-is}
-use borrow.Author.Rules.{rules}
 use Rattle.plan_mix.proofs.mix_moving.Goals as goal
 
 pub returns-then-wide : goal.returns-then-wide

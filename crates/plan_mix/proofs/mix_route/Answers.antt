@@ -1,7 +1,6 @@
 -- `plan_mix::mix_route` meets its contract.
 use native.Mathlib.Omega.{arith}
 use mathlib.Core.Path.{refl}
-use borrow.Author.Rules.{rules}
 use Rattle.plan_mix.proofs.mix_route.Goals as goal
 
 pub returns-then-j-ge-SLOTS : goal.returns-then-j-ge-SLOTS

@@ -1,6 +1,5 @@
 -- `plan_mix::mix_slow` meets its contract.
-use mathlib.Core.Path.{◌≡◌, sym}
-use borrow.Author.Rules.{rules}
+use mathlib.Core.Path.{sym}
 use Rattle.plan_mix.proofs.mix_slow.Goals as goal
 
 pub returns : goal.returns

@@ -1,14 +1,12 @@
 -- `plan_mix::mix_there` meets its contract.
-use mathlib.Core.Path.{◌≡◌, refl, sym, ap, ◌∙◌}
+use mathlib.Core.Path.{sym, ap, ◌∙◌}
 use Prim.Native.Nat.{◌+◌}
-use native.Mathlib.Omega.{arith}
 use Rattle.model.specs.Counts.{at}
 use Rattle.plan_sum.specs.declared.Ground.{Ground}
 use Rattle.plan_sum.specs.Ground.{view_by}
 use Rattle.plan_sum.proofs.Found.{route-is, plain-is, stands, viewed, amount-shown, output-shown}
 use Rattle.plan_sum.proofs.Steps.{other-added}
 use Rattle.plan_mix.proofs.Routes.{both-off, other-rests, viewed-here, new-there}
-use borrow.Author.Rules.{rules}
 use Rattle.plan_mix.proofs.mix_there.Goals as goal
 
 pub mix_moving-requires : goal.mix_moving-requires

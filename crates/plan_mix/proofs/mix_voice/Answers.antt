@@ -1,13 +1,6 @@
-use mathlib.Core.Path.{◌≡◌, refl, sym, ap, ◌∙◌, subst}
-use mathlib.Core.Bool.{Bool, false}
-use mathlib.Core.List.{List}
-use Prim.Native.Nat.{ℕ, ◌+◌, ◌-◌, ◌*◌, ◌/◌, ◌≤◌, ◌<◌}
+use mathlib.Core.Path.{refl, sym, ◌∙◌}
 use native.Mathlib.Omega.{arith}
-use lib.ListN.{length, get_or}
-use Rattle.plan_sum.specs.Ground.{Inside}
-use Rattle.lane.specs.View.{Placed}
-use Rattle.plan_slews.specs.Put.{new_need}
-use Rattle.plan_mix.proofs.Voices.{Voiced, voiced-none, voiced-more, voiced-done}
+use Rattle.plan_mix.proofs.Voices.{voiced-none, voiced-more, voiced-done}
 use borrow.Author.Rules.{rules}
 use Rattle.plan_mix.proofs.mix_voice.Goals as goal
 

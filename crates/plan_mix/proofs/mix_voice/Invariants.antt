@@ -1,15 +1,11 @@
 -- `plan_mix::mix_voice` meets its contract. The invariant: the groups before g are done.
-use mathlib.Core.Path.{◌≡◌, refl, sym, ap, ◌∙◌, subst}
-use mathlib.Core.Bool.{Bool, false}
-use mathlib.Core.List.{List}
-use Prim.Native.Nat.{ℕ, ◌+◌, ◌-◌, ◌*◌, ◌/◌, ◌≤◌, ◌<◌}
-use native.Mathlib.Omega.{arith}
-use lib.ListN.{length, get_or}
+use mathlib.Core.Path.{◌≡◌}
+use Prim.Native.Nat.{◌-◌, ◌*◌, ◌/◌, ◌≤◌, ◌<◌}
+use lib.ListN.{length}
 use Rattle.plan_sum.specs.Ground.{Inside}
 use Rattle.lane.specs.View.{Placed}
 use Rattle.plan_slews.specs.Put.{new_need}
-use Rattle.plan_mix.proofs.Voices.{Voiced, voiced-none, voiced-more, voiced-done}
-use borrow.Author.Rules.{rules}
+use Rattle.plan_mix.proofs.Voices.{Voiced}
 use Rattle.plan_mix.proofs.mix_voice.Given as goal
 
 abbrev pub invariant-loop-g : goal.invariant-loop-g

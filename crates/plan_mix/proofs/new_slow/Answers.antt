@@ -1,7 +1,6 @@
 -- `plan_mix::new_slow` meets its contract.
-use mathlib.Core.Path.{◌≡◌, refl, sym, ap, ◌∙◌, subst}
+use mathlib.Core.Path.{refl}
 use Rattle.plan_slews.proofs.News.{none-new}
-use borrow.Author.Rules.{rules}
 use Rattle.plan_mix.proofs.new_slow.Goals as goal
 
 pub returns-then-still : goal.returns-then-still

@@ -1,12 +1,10 @@
 -- `plan_mix::put_group` meets its contract.
-use mathlib.Core.Path.{◌≡◌, refl, sym, ap, ◌∙◌}
+use mathlib.Core.Path.{refl}
 use mathlib.Core.Bool.{true}
-use Prim.Native.Nat.{ℕ, ◌+◌, ◌≤◌}
-use native.Mathlib.Omega.{arith}
+use Prim.Native.Nat.{◌+◌, ◌≤◌}
 use Rattle.model.specs.RouteValue.{raw_in, source_in}
 use Rattle.plan_mix.specs.Mixed.{slew_by}
 use Rattle.plan_mix.proofs.Laws.{two-apart, two-done, source-by, aux-by, still-none}
-use borrow.Author.Rules.{rules}
 use Rattle.plan_mix.proofs.put_group.Goals as goal
 
 pub returns-then-still : goal.returns-then-still

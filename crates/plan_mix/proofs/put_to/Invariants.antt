@@ -1,14 +1,9 @@
 -- `plan_mix::put_to` meets its contract. The invariant: the lanes below l are put.
-use mathlib.Core.Path.{◌≡◌, refl, sym, ap, ◌∙◌}
-use Prim.Native.Nat.{ℕ, ◌+◌, ◌-◌, ◌≤◌}
-use native.Mathlib.Omega.{arith}
+use mathlib.Core.Path.{◌≡◌}
+use Prim.Native.Nat.{◌-◌, ◌≤◌}
 use lib.ListN.{length}
-use lib.Ieee.{Float}
 use Rattle.model.specs.Counts.{at}
-use Rattle.number.specs.Number.{plus}
 use Rattle.plan_mix.specs.Mixed.{Between}
-use Rattle.plan_mix.proofs.Laws.{between_none, between_more, between-end}
-use borrow.Author.Rules.{rules}
 use Rattle.plan_mix.proofs.put_to.Given as goal
 
 abbrev pub invariant-loop-l : goal.invariant-loop-l

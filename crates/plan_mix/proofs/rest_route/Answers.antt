@@ -1,12 +1,8 @@
 -- `plan_mix::rest_route` meets its contract.
-use mathlib.Core.Path.{◌≡◌, refl, sym, ap, ◌∙◌}
 use native.Mathlib.Omega.{arith}
-use lib.Ieee.{Float}
-use Rattle.model.specs.Lanes.{addend}
-use Rattle.model.specs.Sums.{add_lane, other_step}
+use Rattle.model.specs.Sums.{other_step}
 use Rattle.plan_slews.proofs.Lanes.{row_put}
 use Rattle.plan_mix.proofs.Laws.{row-long, through}
-use borrow.Author.Rules.{rules}
 use Rattle.plan_mix.proofs.rest_route.Goals as goal
 
 pub returns : goal.returns

@@ -1,12 +1,10 @@
 -- `plan_mix::sum_slow` meets its contract.
-use mathlib.Core.Path.{◌≡◌, refl, sym, ap, ◌∙◌}
 use native.Mathlib.Omega.{arith}
 use lib.Ieee.{Float}
 use Rattle.model.specs.Lanes.{addend}
-use Rattle.model.specs.Sums.{add_lane, other_step}
+use Rattle.model.specs.Sums.{add_lane}
 use Rattle.plan_slews.proofs.Lanes.{row_put}
 use Rattle.plan_mix.proofs.Laws.{row-long, through}
-use borrow.Author.Rules.{rules}
 use Rattle.plan_mix.proofs.sum_slow.Goals as goal
 
 pub returns : goal.returns

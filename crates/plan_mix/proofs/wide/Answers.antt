@@ -1,10 +1,9 @@
 -- `plan_mix::wide` meets its contract.
 use mathlib.Core.Bool.{not}
-use mathlib.Core.Path.{◌≡◌, refl, sym, ap, ◌∙◌}
+use mathlib.Core.Path.{refl, ap}
 use borrow.Author.Tests.{eqb-true}
 use Rattle.lane_input.proofs.Tests.{was-true}
 use Rattle.plan_mix.proofs.Laws.{never}
-use borrow.Author.Rules.{rules}
 use Rattle.plan_mix.proofs.wide.Goals as goal
 
 pub returns-then-not-voice : goal.returns-then-not-voice

@@ -2,7 +2,6 @@
 use mathlib.Core.Path.{sym, ◌∙◌}
 use Rattle.source.specs.Registry.{new_entry}
 use Rattle.source.proofs.Adding.{addable, add-refuses, add-accepts}
-use borrow.Author.Rules.{rules}
 use Rattle.source.proofs.add.Goals as goal
 
 pub returns-then-code-ne0 : goal.returns-then-code-ne0

@@ -1,8 +1,7 @@
-use mathlib.Core.Path.{◌≡◌, refl, sym, ◌∙◌}
-use Prim.Native.Nat.{◌+◌, ◌-◌, ◌≤◌, ◌<◌}
+use mathlib.Core.Path.{refl, sym, ◌∙◌}
+use Prim.Native.Nat.{◌+◌, ◌≤◌, ◌<◌}
 use native.Mathlib.Omega.{arith}
-use lib.ListN.{length, get_or, drop}
-use Rattle.source.specs.Standard.{audio_keys, clashes}
+use lib.ListN.{length, get_or}
 use Rattle.source.proofs.Audio.{clash-hit, clash-miss, clash-none, clash-end}
 use borrow.Author.Rules.{rules}
 use Rattle.source.proofs.any_clash.Goals as goal

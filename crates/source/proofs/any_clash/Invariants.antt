@@ -1,11 +1,8 @@
 -- `source::any_clash` meets its contract. The loop's invariant: one of the keys from i on, which start at `start`, is left to clash. Assumes nothing.
-use mathlib.Core.Path.{◌≡◌, refl, sym, ◌∙◌}
-use Prim.Native.Nat.{◌+◌, ◌-◌, ◌≤◌, ◌<◌}
-use native.Mathlib.Omega.{arith}
-use lib.ListN.{length, get_or, drop}
+use mathlib.Core.Path.{◌≡◌}
+use Prim.Native.Nat.{◌-◌, ◌≤◌}
+use lib.ListN.{length, drop}
 use Rattle.source.specs.Standard.{audio_keys, clashes}
-use Rattle.source.proofs.Audio.{clash-hit, clash-miss, clash-none, clash-end}
-use borrow.Author.Rules.{rules}
 use Rattle.source.proofs.any_clash.Given as goal
 
 abbrev pub invariant-loop-i : goal.invariant-loop-i

@@ -1,9 +1,6 @@
-use mathlib.Core.Path.{◌≡◌, refl, sym, ◌∙◌}
-use Prim.Native.Nat.{◌-◌, ◌≤◌}
+use mathlib.Core.Path.{refl, sym, ◌∙◌}
 use native.Mathlib.Omega.{arith}
-use lib.ListN.{length, drop}
 use borrow.Author.Tests.{lt-ltb, le-ltb}
-use Rattle.source.specs.Standard.{any_long}
 use Rattle.source.proofs.Audio.{long-next, long-past}
 use borrow.Author.Rules.{rules}
 use Rattle.source.proofs.any_long.Goals as goal

@@ -1,12 +1,8 @@
 -- `source::any_long` meets its contract. The loop's invariant: a length is long if one from i on is. Assumes nothing.
-use mathlib.Core.Path.{◌≡◌, refl, sym, ◌∙◌}
+use mathlib.Core.Path.{◌≡◌}
 use Prim.Native.Nat.{◌-◌, ◌≤◌}
-use native.Mathlib.Omega.{arith}
 use lib.ListN.{length, drop}
-use borrow.Author.Tests.{lt-ltb, le-ltb}
 use Rattle.source.specs.Standard.{any_long}
-use Rattle.source.proofs.Audio.{long-next, long-past}
-use borrow.Author.Rules.{rules}
 use Rattle.source.proofs.any_long.Given as goal
 
 abbrev pub invariant-loop-i : goal.invariant-loop-i

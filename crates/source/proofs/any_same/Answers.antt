@@ -1,11 +1,10 @@
 use mathlib.Core.Path.{◌≡◌, refl, sym, ◌∙◌}
-use Prim.Native.Nat.{◌+◌, ◌-◌, ◌≤◌, ◌<◌}
+use Prim.Native.Nat.{◌+◌, ◌≤◌, ◌<◌}
 use native.Mathlib.Omega.{arith}
 use mathlib.Core.Bool.{true, false}
-use lib.ListN.{length, get_or, drop}
+use lib.ListN.{length, get_or}
 use Rattle.list.specs.Part.{part}
 use Rattle.source_key.specs.Bytes.{same_bytes}
-use Rattle.source.specs.Standard.{audio_keys, any_same}
 use Rattle.source.proofs.Audio.{same-hit, same-miss, same_none, same_end}
 use borrow.Author.Rules.{rules}
 use Rattle.source.proofs.any_same.Goals as goal

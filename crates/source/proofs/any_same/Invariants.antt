@@ -1,14 +1,8 @@
 -- `source::any_same` meets its contract. The loop's invariant: one of the keys from i on, which start at `at`, is left to be the key. Assumes nothing.
-use mathlib.Core.Path.{◌≡◌, refl, sym, ◌∙◌}
-use Prim.Native.Nat.{◌+◌, ◌-◌, ◌≤◌, ◌<◌}
-use native.Mathlib.Omega.{arith}
-use mathlib.Core.Bool.{true, false}
-use lib.ListN.{length, get_or, drop}
-use Rattle.list.specs.Part.{part}
-use Rattle.source_key.specs.Bytes.{same_bytes}
+use mathlib.Core.Path.{◌≡◌}
+use Prim.Native.Nat.{◌-◌, ◌≤◌}
+use lib.ListN.{length, drop}
 use Rattle.source.specs.Standard.{audio_keys, any_same}
-use Rattle.source.proofs.Audio.{same-hit, same-miss, same_none, same_end}
-use borrow.Author.Rules.{rules}
 use Rattle.source.proofs.any_same.Given as goal
 
 abbrev pub invariant-loop-i : goal.invariant-loop-i

@@ -4,7 +4,6 @@ use borrow.Author.Tests.{lt-ltb, le-ltb}
 use Rattle.refusal.specs.Judge.{judged}
 use Rattle.source.specs.Registry.{find_source}
 use Rattle.source.proofs.Registry.{find-said}
-use borrow.Author.Rules.{rules}
 use Rattle.source.proofs.find.Goals as goal
 
 pub returns-then-key-gt-KEY_BYTES : goal.returns-then-key-gt-KEY_BYTES

@@ -1,15 +1,15 @@
 use mathlib.Core.Path.{◌≡◌, refl, sym, ap, ◌∙◌}
 use mathlib.Core.Bool.{Bool}
 use mathlib.Core.List.{List}
-use Prim.Native.Nat.{ℕ, ◌-◌, ◌≤◌, ◌<◌}
+use Prim.Native.Nat.{ℕ, ◌<◌}
 use native.Mathlib.Omega.{arith}
 use borrow.Author.Rules.{rules}
-use lib.ListN.{length, get_or, drop}
+use lib.ListN.{length, get_or}
 use Rattle.config.specs.Sizes.{most_sources}
 use Rattle.source.specs.Keys.{key_is}
 use Rattle.state.specs.declared.Sources.{Sources}
 use Rattle.state.specs.Registry.{source_count}
-use Rattle.source.specs.Registry.{registered, find_key}
+use Rattle.source.specs.Registry.{registered}
 use Rattle.source.proofs.Registry.{past_end, registered-length, registered-at, find-here, find-next, find_past}
 use Rattle.source.proofs.find_key.Goals as goal
 

@@ -1,6 +1,5 @@
 -- `source::fixed_sources` meets its contract. Assumes nothing.
 use Rattle.source.specs.Standard.{fixed_sources}
-use borrow.Author.Rules.{rules}
 use Rattle.source.proofs.fixed_sources.Goals as goal
 
 pub returns : goal.returns

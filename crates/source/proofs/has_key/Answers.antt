@@ -2,7 +2,6 @@
 use mathlib.Core.Path.{ap, ◌∙◌}
 use Rattle.source.specs.Registry.{is_at}
 use Rattle.source.specs.Standard.{has}
-use borrow.Author.Rules.{rules}
 use Rattle.source.proofs.has_key.Goals as goal
 
 pub returns : goal.returns

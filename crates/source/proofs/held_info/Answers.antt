@@ -1,7 +1,6 @@
 -- `source::held_info` meets its contract. Assumes nothing.
 use mathlib.Core.Path.{ap, ◌∙◌}
 use Rattle.source.specs.Info.{info_voice}
-use borrow.Author.Rules.{rules}
 use Rattle.source.proofs.held_info.Goals as goal
 
 pub returns : goal.returns

@@ -1,7 +1,6 @@
 -- `source::is_sequence` meets its contract. Assumes nothing.
 use mathlib.Core.Path.{sym, ◌∙◌}
 use Rattle.source.proofs.Sequence.{sequence-value, sequence-none, sequence-index}
-use borrow.Author.Rules.{rules}
 use Rattle.source.proofs.is_sequence.Goals as goal
 
 pub returns-then-is_numbered : goal.returns-then-is_numbered

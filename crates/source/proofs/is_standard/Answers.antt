@@ -5,7 +5,6 @@ use mathlib.Core.List.{[]}
 use Rattle.source.specs.Named.{env_word, lfo_word, after_y, macro_word}
 use Rattle.source_key.specs.Numbered.{is_numbered}
 use Rattle.source.specs.Standard.{has, sequence_key, standard_key}
-use borrow.Author.Rules.{rules}
 use Rattle.source.proofs.is_standard.Goals as goal
 
 pub returns-then-is_numbered : goal.returns-then-is_numbered

@@ -3,7 +3,6 @@ use mathlib.Core.Path.{◌≡◌, sym, ◌∙◌}
 use mathlib.Core.Bool.{true, false}
 use Rattle.list.specs.Part.{part}
 use Rattle.source.specs.Standard.{standard_key}
-use borrow.Author.Rules.{rules}
 use Rattle.source.proofs.key_clashes.Goals as goal
 
 pub is_standard-requires : goal.is_standard-requires

@@ -1,12 +1,10 @@
 use mathlib.Core.Path.{◌≡◌, refl, sym, ◌∙◌}
-use Prim.Native.Nat.{◌-◌, ◌≤◌}
 use native.Mathlib.Omega.{arith}
 use borrow.Author.Rules.{rules}
 use borrow.Author.Tests.{eq-eqb, ne_eqb}
-use lib.ListN.{length, get_or, take, drop}
+use lib.ListN.{length, get_or, take}
 use lib.Seq.{length-take-le}
 use Rattle.source.specs.Keys.{key_length, most_key_bytes}
-use Rattle.source_key.specs.Bytes.{same_bytes}
 use Rattle.source.proofs.Keys.{same_turn, key-longer, key-by-bytes}
 use Rattle.source_key.proofs.Bytes.{same-past}
 use Rattle.source.proofs.key_is.Goals as goal

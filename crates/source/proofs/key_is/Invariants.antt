@@ -1,16 +1,9 @@
 -- `source::key_is` meets its contract. The loop's invariant: the key is the entry's if what is left of both from `at` on is the same.
 -- Assumes nothing.
-use mathlib.Core.Path.{◌≡◌, refl, sym, ◌∙◌}
+use mathlib.Core.Path.{◌≡◌}
 use Prim.Native.Nat.{◌-◌, ◌≤◌}
-use native.Mathlib.Omega.{arith}
-use borrow.Author.Rules.{rules}
-use borrow.Author.Tests.{eq-eqb, ne_eqb}
-use lib.ListN.{length, get_or, take, drop}
-use lib.Seq.{length-take-le}
-use Rattle.source.specs.Keys.{key_length, most_key_bytes}
+use lib.ListN.{length, take, drop}
 use Rattle.source_key.specs.Bytes.{same_bytes}
-use Rattle.source.proofs.Keys.{same_turn, key-longer, key-by-bytes}
-use Rattle.source_key.proofs.Bytes.{same-past}
 use Rattle.source.proofs.key_is.Given as goal
 
 abbrev pub invariant-loop-at : goal.invariant-loop-at

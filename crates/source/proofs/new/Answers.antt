@@ -1,6 +1,5 @@
 -- `source::new` meets its contract. Assumes nothing.
 use Rattle.source.specs.Registry.{no_sources}
-use borrow.Author.Rules.{rules}
 use Rattle.source.proofs.new.Goals as goal
 
 pub returns : goal.returns

@@ -1,7 +1,6 @@
 -- `source::standard` meets its contract. It is refused by a row, or accepted since none applies. Assumes nothing.
 use mathlib.Core.Path.{sym, ◌∙◌}
 use Rattle.source.proofs.Accepted.{standard-refuses, standard-accepts}
-use borrow.Author.Rules.{rules}
 use Rattle.source.proofs.standard.Goals as goal
 
 pub returns-then-code-ne0 : goal.returns-then-code-ne0

@@ -6,7 +6,6 @@ use lib.ListN.{length}
 use Rattle.refusal.specs.Judge.{judged}
 use Rattle.config.specs.Sizes.{most_sources}
 use Rattle.source.specs.Standard.{audio_keys, total, any_long, clashes, standard_count}
-use borrow.Author.Rules.{rules}
 use Rattle.source.proofs.standard_code.Goals as goal
 
 pub any_clash-requires : goal.any_clash-requires

@@ -1,7 +1,6 @@
 -- `source::standard_count` meets its contract. Assumes nothing.
 use native.Mathlib.Omega.{arith}
 use Rattle.source.specs.Standard.{standard_count}
-use borrow.Author.Rules.{rules}
 use Rattle.source.proofs.standard_count.Goals as goal
 
 pub overflow_add-result-2 : goal.overflow_add-result-2

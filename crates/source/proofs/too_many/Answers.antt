@@ -6,7 +6,6 @@ use lib.Dec.{ltb}
 use borrow.Author.Tests.{lt-ltb}
 use Rattle.config.specs.Sizes.{most_sources}
 use Rattle.source.specs.Standard.{standard_count}
-use borrow.Author.Rules.{rules}
 use Rattle.source.proofs.too_many.Goals as goal
 
 pub returns-then-counts-gt-SOURCES : goal.returns-then-counts-gt-SOURCES

@@ -1,10 +1,5 @@
-use mathlib.Core.Path.{◌≡◌, refl, sym, ap, ◌∙◌}
-use mathlib.Core.Bool.{false}
-use Prim.Native.Nat.{◌+◌, ◌-◌, ◌≤◌}
+use mathlib.Core.Path.{refl, sym, ◌∙◌}
 use native.Mathlib.Omega.{arith}
-use lib.ListN.{length, get_or, drop}
-use Rattle.state.specs.declared.Sources.{Sources}
-use Rattle.source.specs.Standard.{with_audio, audio_keys, total, any_long}
 use Rattle.source.proofs.Audio.{audio-next, audio-past, total-next, short-next}
 use borrow.Author.Rules.{rules}
 use Rattle.source.proofs.with_audio.Goals as goal

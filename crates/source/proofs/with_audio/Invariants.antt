@@ -1,13 +1,9 @@
 -- `source::with_audio` meets its contract. The loop's invariant: the sources for the keys from i on, which start at `start`, are left to add; they lie inside the bytes and are short. Assumes nothing.
-use mathlib.Core.Path.{◌≡◌, refl, sym, ap, ◌∙◌}
+use mathlib.Core.Path.{◌≡◌}
 use mathlib.Core.Bool.{false}
 use Prim.Native.Nat.{◌+◌, ◌-◌, ◌≤◌}
-use native.Mathlib.Omega.{arith}
-use lib.ListN.{length, get_or, drop}
-use Rattle.state.specs.declared.Sources.{Sources}
+use lib.ListN.{length, drop}
 use Rattle.source.specs.Standard.{with_audio, audio_keys, total, any_long}
-use Rattle.source.proofs.Audio.{audio-next, audio-past, total-next, short-next}
-use borrow.Author.Rules.{rules}
 use Rattle.source.proofs.with_audio.Given as goal
 
 abbrev pub invariant-loop-i : goal.invariant-loop-i

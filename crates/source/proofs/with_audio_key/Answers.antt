@@ -1,6 +1,5 @@
 -- `source::with_audio_key` meets its contract. Assumes nothing.
 use Rattle.list.specs.Part.{part}
-use borrow.Author.Rules.{rules}
 use Rattle.source.proofs.with_audio_key.Goals as goal
 
 pub returns : goal.returns

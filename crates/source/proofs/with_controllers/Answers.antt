@@ -1,6 +1,5 @@
 -- `source::with_controllers` meets its contract. Assumes nothing.
 use Rattle.source.specs.Standard.{with_controllers}
-use borrow.Author.Rules.{rules}
 use Rattle.source.proofs.with_controllers.Goals as goal
 
 pub returns : goal.returns

@@ -1,6 +1,5 @@
 -- `source::with_entry` meets its contract. Assumes nothing.
 use Rattle.source.specs.Registry.{with_entry}
-use borrow.Author.Rules.{rules}
 use Rattle.source.proofs.with_entry.Goals as goal
 
 pub returns : goal.returns

@@ -1,6 +1,5 @@
 -- `source::with_lfo` meets its contract. Assumes nothing.
 use Rattle.source.specs.Standard.{lfo_pair}
-use borrow.Author.Rules.{rules}
 use Rattle.source.proofs.with_lfo.Goals as goal
 
 pub returns : goal.returns

@@ -1,11 +1,7 @@
 -- `source::with_lfos` meets its contract. The loop's invariant: LFOs 1 to i are there. Assumes nothing.
-use mathlib.Core.Path.{◌≡◌, sym, ap, ◌∙◌}
-use Prim.Native.Nat.{ℕ, ◌-◌, ◌≤◌}
-use native.Mathlib.Numerals.{add-one}
-use native.Mathlib.Omega.{arith}
-use Rattle.source.specs.Standard.{counted, lfo_pair, with_lfos}
-use Rattle.source.proofs.Written.{counted_none, counted-more}
-use borrow.Author.Rules.{rules}
+use mathlib.Core.Path.{◌≡◌}
+use Prim.Native.Nat.{◌-◌, ◌≤◌}
+use Rattle.source.specs.Standard.{counted, lfo_pair}
 use Rattle.source.proofs.with_lfos.Given as goal
 
 abbrev pub invariant-loop-i : goal.invariant-loop-i

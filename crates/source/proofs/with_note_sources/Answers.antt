@@ -1,6 +1,5 @@
 -- `source::with_note_sources` meets its contract. Assumes nothing.
 use Rattle.source.specs.Standard.{with_note_sources}
-use borrow.Author.Rules.{rules}
 use Rattle.source.proofs.with_note_sources.Goals as goal
 
 pub returns : goal.returns

@@ -1,6 +1,5 @@
 -- `source::with_number` meets its contract. Assumes nothing.
 use Rattle.source.proofs.Written.{with-written}
-use borrow.Author.Rules.{rules}
 use Rattle.source.proofs.with_number.Goals as goal
 
 pub returns : goal.returns

@@ -1,13 +1,8 @@
 use mathlib.Core.Path.{◌≡◌, sym, ap, ◌∙◌}
-use Prim.Native.Nat.{ℕ, ◌+◌, ◌-◌, ◌≤◌}
+use Prim.Native.Nat.{ℕ}
 use native.Mathlib.Numerals.{add-one}
 use native.Mathlib.Omega.{arith}
-use mathlib.Core.List.{List}
-use lib.ListN.{length}
-use Rattle.state.specs.declared.Sources.{Sources}
-use Rattle.source.specs.declared.SourceInfo.{SourceInfo}
-use Rattle.source_key.specs.Numbered.{numbered_key}
-use Rattle.source.specs.Standard.{with_source, counted, with_numbered}
+use Rattle.source.specs.Standard.{counted, with_numbered}
 use Rattle.source.proofs.Written.{counted_none, counted-more}
 use borrow.Author.Rules.{rules}
 use Rattle.source.proofs.with_numbered.Goals as goal

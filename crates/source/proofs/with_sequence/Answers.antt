@@ -2,7 +2,6 @@
 use mathlib.Core.Path.{sym}
 use Rattle.source.specs.Standard.{with_sequence}
 use Rattle.source.proofs.Written.{sequence-some}
-use borrow.Author.Rules.{rules}
 use Rattle.source.proofs.with_sequence.Goals as goal
 
 pub returns-then-count-eq0 : goal.returns-then-count-eq0

@@ -1,7 +1,6 @@
 -- `source::with_source` meets its contract. Assumes nothing.
 use Rattle.source.specs.Registry.{new_entry}
 use Rattle.source.specs.Standard.{with_source}
-use borrow.Author.Rules.{rules}
 use Rattle.source.proofs.with_source.Goals as goal
 
 pub returns : goal.returns

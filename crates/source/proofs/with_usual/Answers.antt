@@ -1,5 +1,4 @@
 -- `source::with_usual` meets its contract. Assumes nothing.
-use borrow.Author.Rules.{rules}
 use Rattle.source.proofs.with_usual.Goals as goal
 
 pub returns : goal.returns

@@ -1,5 +1,4 @@
 -- `dest::DestInfo::macro_control` meets its contract.
-use borrow.Author.Rules.{rules}
 use Rattle.dest.proofs.DestInfo.macro_control.Goals as goal
 
 pub returns : goal.returns

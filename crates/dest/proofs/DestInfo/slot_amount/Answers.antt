@@ -1,6 +1,5 @@
 -- `dest::DestInfo::slot_amount` meets its contract.
 use lib.Ieee.{of_bits, neg}
-use borrow.Author.Rules.{rules}
 use Rattle.dest.proofs.DestInfo.slot_amount.Goals as goal
 
 pub returns : goal.returns

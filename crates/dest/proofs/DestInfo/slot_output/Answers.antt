@@ -1,5 +1,4 @@
 -- `dest::DestInfo::slot_output` meets its contract.
-use borrow.Author.Rules.{rules}
 use Rattle.dest.proofs.DestInfo.slot_output.Goals as goal
 
 pub returns : goal.returns

@@ -1,6 +1,5 @@
 -- `dest::DestInfo::unbounded` meets its contract.
 use lib.Ieee.{of_bits, neg, div}
-use borrow.Author.Rules.{rules}
 use Rattle.dest.proofs.DestInfo.unbounded.Goals as goal
 
 pub returns : goal.returns

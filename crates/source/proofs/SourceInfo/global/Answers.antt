@@ -1,6 +1,5 @@
 -- `source::SourceInfo::global` meets its contract. Assumes nothing.
 use mathlib.Core.Path.{sym, ◌∙◌}
-use borrow.Author.Rules.{rules}
 use Rattle.source.proofs.SourceInfo.global.Goals as goal
 
 pub returns-then-is_engine_owned : goal.returns-then-is_engine_owned

@@ -1,5 +1,4 @@
 -- `source::SourceInfo::new` meets its contract. Assumes nothing.
-use borrow.Author.Rules.{rules}
 use Rattle.source.proofs.SourceInfo.new.Goals as goal
 
 pub returns : goal.returns
