@@ -23,7 +23,7 @@ use Rattle.state.specs.declared.State.{State}
 use Rattle.state.specs.declared.Wiring.{Wiring}
 use Rattle.state.specs.Registry.{dest_at}
 use Rattle.model.specs.Wiring.{verdicts, candidates}
-use Rattle.model.specs.Feeds.{in_use, counted_feed, dest_voice, feeder_of, reader_by, readers_of, reads, controls, audios, plan_order}
+use Rattle.model.specs.Feeds.{in_use, counted_feed, dest_voice, is_audio, feeder_of, reader_by, readers_of, reads, controls, audios, plan_order}
 use Rattle.model.specs.Routes.{route_by, route_in}
 use Rattle.model.specs.Plans.{readers_into, plan_by, plans_of, all_routes, compiled}
 use Rattle.model.specs.Counts.{plan_total, control_total, route_total, plan_at, route_at}
@@ -201,6 +201,15 @@ module _ (w : Wiring) (slotted : length w.matrix.slot ≡ slots) (st : State) (i
         base = ap (λ (p : Plan). p.base) e;
         count = ap (λ (p : Plan). p.count) e ∙ readers-many w d;
       }
+
+  -- it is an audio plan where the destination is one of audio
+  pub plan-audio : (d : ℕ) → In d (in_use w) → (plan_at st (index_of d (plan_order w))).audio ≡ is_audio w d
+  unfolding plan_by is_audio
+  plan-audio d h =
+      let r = place_at w d h in
+      let i = index_of d (plan_order w) in
+      let f = into_first i (plan_order w) (readers_of w) in
+      ap (λ (p : Plan). p.audio) (plan-at i r.1 ∙ ap (λ (x : ℕ). plan_with w x (0 + f)) r.0)
 
   -- ---- routes
 

@@ -39,3 +39,10 @@ pub mod Sessions
 pub mod ProgramTables
 pub mod ShownRows
 pub mod BlockLeaves
+pub mod BlockShows
+pub mod Shown
+pub mod BlockUntouched
+pub mod BlockLaws
+pub mod SpareLaws
+pub mod AudioShows
+pub mod AudioLaws

@@ -32,5 +32,6 @@ pub mod Instants
 pub mod Promises
 pub mod Answered
 pub mod Sessions
+pub mod Shown
 mod SmallSessions
 mod ClaimExamples
