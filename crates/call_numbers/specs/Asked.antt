@@ -39,7 +39,8 @@ use Rattle.curve.specs.CurveCalls.{lookup_call, slew_call}
 use Rattle.matrix.specs.declared.CurveSlot.{CurveSlot}
 use Rattle.matrix.specs.declared.NoteSlot.{NoteSlot}
 use Rattle.matrix.specs.declared.SortBy.{SortBy}
-use Rattle.matrix.specs.Edits.{slot_row, slot_at, set_slot, add_route, remove_slot, set_bypass, set_slot_amount, set_slot_output}
+use Rattle.matrix.specs.Edits.{slot_row, slot_at, set_slot, add_route, remove_slot, set_bypass, set_slot_amount}
+use Rattle.matrix.specs.Edits.{set_slot_output}
 use Rattle.matrix.specs.Edits.{sort_rows, load_rows}
 use Rattle.matrix.specs.Edits.{set_polarity, set_aux, set_linear, set_curve, set_note_curve, sort_slots, load_matrix}
 use Rattle.matrix.specs.Routes.{drag_route, create_vibrato, create_velocity_to_amp, drag_polarity, limit_depth}
@@ -47,7 +48,8 @@ use Rattle.matrix.specs.Replies.{add_rows, drag_rows}
 use Rattle.program.specs.Sizes.{stride_call, max_chunks_call}
 use Rattle.model.specs.World.{World}
 use Rattle.model.specs.Compile.{Memories, compile_rows, compile, empty_program}
-use Rattle.model.specs.Settings.{new_rows, new_engine, bind_signal, held_rows, set_held, voice_held_rows, set_voice_held}
+use Rattle.model.specs.Settings.{new_rows, new_engine, bind_signal, held_rows, set_held, voice_held_rows}
+use Rattle.model.specs.Settings.{set_voice_held}
 use Rattle.model.specs.Settings.{base_rows, set_base}
 use Rattle.model.specs.Settings.{gain_rows, set_amount, set_output, set_voice_limit, swap_rows, swap_program}
 use Rattle.model.specs.NoteCalls.{Note, voice_row, note_on_rows, note_on, note_off_rows, note_off, voice_ended_rows}

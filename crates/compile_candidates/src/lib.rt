@@ -8,7 +8,8 @@ ghost use Rattle.state.specs.declared.AuxSource.TheVariants as X;
 ghost use Rattle.state.specs.declared.Pick.TheVariants as P;
 ghost use Rattle.state.specs.Registry.{dest_place};
 ghost use Rattle.state_filled.specs.Filled.{candidates_of, skips_of};
-ghost use Rattle.model.specs.Wiring.{aux_known, aux_of, looked, verdict_by, verdict, verdicts_from, taken_of, left_out_from};
+ghost use Rattle.model.specs.Wiring.{aux_known, aux_of, looked, verdict_by, verdict, verdicts_from, taken_of};
+ghost use Rattle.model.specs.Wiring.{left_out_from};
 ghost use Rattle.compile_candidates.specs.Added.{candidate_added, skip_added};
 
 use config::SLOTS;

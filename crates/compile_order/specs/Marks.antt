@@ -1,5 +1,6 @@
 -- The order of plans from the destinations in use and the readers, by places and marks. Definitions only.
-use Rattle.std.specs.Prelude.{◌≡◌, refl, Bool, true, false, cond, not, ◌&&◌, List, [], ◌∷◌, ◌++◌, ℕ, ◌*◌, ◌/◌, ◌%◌, eqb, ltb, length, get_or}
+use Rattle.std.specs.Prelude.{◌≡◌, refl, Bool, true, false, cond, not, ◌&&◌, List, [], ◌∷◌, ◌++◌, ℕ, ◌*◌, ◌/◌, ◌%◌, eqb}
+use Rattle.std.specs.Prelude.{ltb, length, get_or}
 use Rattle.config.specs.Sizes.{slots}
 use Rattle.feed.specs.Order.{order}
 use Rattle.state.specs.declared.Used.{Used}

@@ -38,7 +38,8 @@ most_stride = lane_stride most_voices
 abbrev pub most_chunks : ℕ → ℕ
 most_chunks frames = frames / period + 2
 
-strides : (lane_stride 0 ≡ 16) × (lane_stride 1 ≡ 16) × (lane_stride 16 ≡ 16) × (lane_stride 17 ≡ 32) × (lane_stride 64 ≡ 64)
+strides : (lane_stride 0 ≡ 16) × (lane_stride 1 ≡ 16) × (lane_stride 16 ≡ 16) × (lane_stride 17 ≡ 32)
+    × (lane_stride 64 ≡ 64)
 strides = (refl, refl, refl, refl, refl)
 
 chunks : (most_chunks 0 ≡ 2) × (most_chunks 31 ≡ 2) × (most_chunks 64 ≡ 4) × (most_chunks 4096 ≡ 130)

@@ -12,8 +12,8 @@ use Rattle.curve.specs.CurveCalls.{lookup_call, slew_call, diagonal_table}
 -- the diagonal is accepted, and 0.5 and a NaN are looked up in it
 accepted : (lookup_call diagonal_table half32 ≡ record { code = 0; value = half32 })
     × (lookup_call diagonal_table nan ≡ record { code = 0; value = nan })
-unfolding lookup_call diagonal_table table_code judged all_allowed allowed finite le lookup_of position cell_of part_of clamp_to
-    lt add sub mul div of_int to_unsigned
+unfolding lookup_call diagonal_table table_code judged all_allowed allowed finite le lookup_of position cell_of part_of
+    clamp_to lt add sub mul div of_int to_unsigned
 accepted = (refl, refl)
 
 -- a short table is row 15, and row 6 where it holds a 17

@@ -1,6 +1,7 @@
 -- Tables of 513 numbers: their points, the lookup, and what a table may hold (document 01, Curve table). Definitions
 -- only.
-use Rattle.std.specs.Prelude.{Bool, true, false, not, ◌&&◌, List, [], ◌∷◌, ℕ, zero, suc, ◌+◌, min, eqb, pos, length, get_or, Float}
+use Rattle.std.specs.Prelude.{Bool, true, false, not, ◌&&◌, List, [], ◌∷◌, ℕ, zero, suc, ◌+◌, min, eqb, pos, length}
+use Rattle.std.specs.Prelude.{get_or, Float}
 use Rattle.std.specs.Float.{nan, fin}
 use Rattle.std.specs.Float.Ieee.{le}
 use Rattle.refusal.specs.Judge.{Row, judged, ◌when◌}

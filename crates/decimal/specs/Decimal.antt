@@ -6,7 +6,8 @@
 -- below 10 ^ 18 (18 digits, zeros in front not counted, zeros at the end counted), the exponent's digits are a number
 -- below 1000, and, where m is not 0, p is not below -17 and, from p = 0 on, m * 10 ^ p is below 2 ^ 64. Any other
 -- decimal is outside. Where m is 0 it is a zero, of the decimal's sign.
-use Rattle.std.specs.Prelude.{Bool, true, false, cond, ◌&&◌, ◌||◌, List, [], ◌∷◌, ℕ, suc, ◌+◌, ◌-◌, ◌*◌, ◌^◌, leb, ltb, eqb, pos, length, get_or, drop, Float}
+use Rattle.std.specs.Prelude.{Bool, true, false, cond, ◌&&◌, ◌||◌, List, [], ◌∷◌, ℕ, suc, ◌+◌, ◌-◌, ◌*◌, ◌^◌, leb, ltb}
+use Rattle.std.specs.Prelude.{eqb, pos, length, get_or, drop, Float}
 use Rattle.std.specs.Float.{fin, binary32}
 use Rattle.std.specs.Float.Ieee.{of_bits, round}
 use Rattle.decimal.specs.declared.DecimalWord.{DecimalWord}
@@ -84,7 +85,8 @@ is_power w =
     (ltb 0 (length (unsigned (power w))) && eqb (run (unsigned (power w))) (length (unsigned (power w))))
 
 unfoldable pub is_decimal : List ℕ → Bool
-is_decimal w = ltb 0 (run (unsigned w) + run (after_point w)) && (is_power w || (has_point w && eqb (length (mark w)) 0))
+is_decimal w =
+    ltb 0 (run (unsigned w) + run (after_point w)) && (is_power w || (has_point w && eqb (length (mark w)) 0))
 
 -- ---- the value
 

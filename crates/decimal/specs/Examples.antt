@@ -33,7 +33,8 @@ ties = (refl, refl, refl, refl)
 -- 1e-10, 999999999e10, 0.30000000000000004, -0e5
 far :
     (decimal_of (49 ∷ 101 ∷ 45 ∷ 49 ∷ 48 ∷ []) ≡ given (fin false 14411519 (negsuc 56)))
-    × (decimal_of (57 ∷ 57 ∷ 57 ∷ 57 ∷ 57 ∷ 57 ∷ 57 ∷ 57 ∷ 57 ∷ 101 ∷ 49 ∷ 48 ∷ []) ≡ given (fin false 9094947 (pos 40)))
+    × (decimal_of (57 ∷ 57 ∷ 57 ∷ 57 ∷ 57 ∷ 57 ∷ 57 ∷ 57 ∷ 57 ∷ 101 ∷ 49 ∷ 48 ∷ [])
+    ≡ given (fin false 9094947 (pos 40)))
     × (decimal_of (48 ∷ 46 ∷ 51 ∷ 48 ∷ 48 ∷ 48 ∷ 48 ∷ 48 ∷ 48 ∷ 48 ∷ 48 ∷ 48 ∷ 48 ∷ 48 ∷ 48 ∷ 48 ∷ 48 ∷ 48 ∷ 52 ∷ [])
     ≡ given (fin false 5033165 (negsuc 23)))
     × (decimal_of (45 ∷ 48 ∷ 101 ∷ 53 ∷ []) ≡ given (fin true 0 (pos 0)))

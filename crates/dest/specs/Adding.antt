@@ -1,5 +1,6 @@
 -- Adding a destination (document 01, rows 9 to 12; dest.rs 255-274). Definitions only.
-use Rattle.std.specs.Prelude.{◌≡◌, refl, Bool, true, false, cond, not, ◌||◌, List, [], ◌∷◌, ℕ, ◌+◌, ◌-◌, eqb, leb, pos, set, Float}
+use Rattle.std.specs.Prelude.{◌≡◌, refl, Bool, true, false, cond, not, ◌||◌, List, [], ◌∷◌, ℕ, ◌+◌, ◌-◌, eqb, leb, pos}
+use Rattle.std.specs.Prelude.{set, Float}
 use Rattle.std.specs.Float.{nan, inf, fin}
 use Rattle.std.specs.Float.Ieee.{lt, is_nan}
 use Rattle.refusal.specs.Judge.{Row, ◌when◌, judged, numbered, ascends}

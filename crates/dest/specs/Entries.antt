@@ -93,7 +93,8 @@ entries = (refl, refl)
 -- a count beyond the most counts as the most
 held : (entry : List Dest) → (dest_count (record { count = 5000; entry = entry }) ≡ 1024)
     × (dest_count (record { count = 1024; entry = entry }) ≡ 1024)
-    × (dest_count (record { count = 3; entry = entry }) ≡ 3) × (dests_empty (record { count = 0; entry = entry }) ≡ true)
+    × (dest_count (record { count = 3; entry = entry }) ≡ 3)
+    × (dests_empty (record { count = 0; entry = entry }) ≡ true)
     × (dests_empty (record { count = 1; entry = entry }) ≡ false)
 unfolding dests_empty
 held entry = (refl, refl, refl, refl, refl)

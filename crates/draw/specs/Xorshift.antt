@@ -2,7 +2,8 @@
 -- number below 2 ^ 64. A draw steps the state by three shifts and xors, and reads its number off the state after,
 -- multiplied ("scrambled"); document 01, "Chunk and value", draws; engine.rs 690-697. Definitions and examples only.
 -- Assumes nothing.
-use Rattle.std.specs.Prelude.{◌≡◌, ℕ, zero, suc, ◌*◌, ◌/◌, ◌%◌, ◌^◌, false, List, [], ◌∷◌, pos, negsuc, bit_xor, refl, Float}
+use Rattle.std.specs.Prelude.{◌≡◌, ℕ, zero, suc, ◌*◌, ◌/◌, ◌%◌, ◌^◌, false, List, [], ◌∷◌, pos, negsuc, bit_xor, refl}
+use Rattle.std.specs.Prelude.{Float}
 use Rattle.std.specs.Float.{fin, binary32}
 use Rattle.std.specs.Float.Ieee.{div, of_int}
 

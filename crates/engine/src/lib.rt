@@ -4,9 +4,11 @@
 
 ghost use Rattle.std.specs.Prelude.{◌≡◌, [], not, ◌||◌};
 ghost use Rattle.model.specs.World.{world_of};
-ghost use Rattle.model.specs.Settings.{refused_state, new_engine, unbound_signals, bind_signal, set_held, set_voice_held};
+ghost use Rattle.model.specs.Settings.{refused_state, new_engine, unbound_signals, bind_signal, set_held};
+ghost use Rattle.model.specs.Settings.{set_voice_held};
 ghost use Rattle.model.specs.Settings.{set_base, set_amount, set_output, set_voice_limit, swap_program};
-ghost use Rattle.model.specs.Outputs.{engine_stride, engine_program, output_of, audio_part, frame_part, from_part, to_part};
+ghost use Rattle.model.specs.Outputs.{engine_stride, engine_program, output_of, audio_part, frame_part, from_part};
+ghost use Rattle.model.specs.Outputs.{to_part};
 ghost use Rattle.model.specs.Outputs.{chunk_count, chunk_at, audio_at, control_value, ramp_of, latest_of, latest_all};
 ghost use Rattle.model.specs.NoteCalls.{new_note, note_finite, note_on, note_off, voice_ended, is_active};
 ghost use Rattle.model.specs.Process.{process};

@@ -1,6 +1,7 @@
 -- What a note writes, from the parts of a state that it reads (model's specs/NoteCalls; proofs/Whole.antt has that the
 -- two agree). Definitions only.
-use Rattle.std.specs.Prelude.{Bool, true, not, cond, List, ℕ, zero, suc, ◌+◌, ◌*◌, ◌≤◌, ◌<◌, eqb, leb, get_or, set, Float}
+use Rattle.std.specs.Prelude.{Bool, true, not, cond, List, ℕ, zero, suc, ◌+◌, ◌*◌, ◌≤◌, ◌<◌, eqb, leb, get_or, set}
+use Rattle.std.specs.Prelude.{Float}
 use Rattle.config.specs.Sizes.{most_sources, most_voices}
 use Rattle.draw.specs.Xorshift.{step, draw_of}
 use Rattle.number.specs.Number.{zero32, one32}

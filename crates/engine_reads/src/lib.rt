@@ -1,9 +1,11 @@
 // What is read of an engine: places, parts and numbers of its outputs. The definitions are in model's specs/Outputs.
 #![tactic(auto)]
 
-ghost use Rattle.std.specs.Prelude.{◌≡◌, false, cond, ◌&&◌, ◌||◌, [], ◌∷◌, ◌+◌, ◌-◌, ◌*◌, ◌≤◌, ◌<◌, min, leb, ltb, length, get_or, take};
+ghost use Rattle.std.specs.Prelude.{◌≡◌, false, cond, ◌&&◌, ◌||◌, [], ◌∷◌, ◌+◌, ◌-◌, ◌*◌, ◌≤◌, ◌<◌, min, leb, ltb};
+ghost use Rattle.std.specs.Prelude.{length, get_or, take};
 ghost use Rattle.std.specs.Float.{nan};
-ghost use Rattle.config.specs.Sizes.{slots, period, most_voices, most_frames, most_destinations, most_stride, most_chunks};
+ghost use Rattle.config.specs.Sizes.{slots, period, most_voices, most_frames, most_destinations, most_stride};
+ghost use Rattle.config.specs.Sizes.{most_chunks};
 ghost use Rattle.feed.specs.Numbers.{up_from};
 ghost use Rattle.refusal.specs.Judge.{judged, ◌when◌};
 ghost use Rattle.list.specs.Fill.{fill};
@@ -11,7 +13,8 @@ ghost use Rattle.list.specs.Part.{part, on_part};
 ghost use Rattle.state_filled.specs.Filled.{no_plan};
 ghost use Rattle.model.specs.Layout.{plan_width, plan_size, audio_size};
 ghost use Rattle.model.specs.Process.{values_of, audio_need_of};
-ghost use Rattle.model.specs.Outputs.{plan_of, output_of, audio_part, frame_part, from_part, to_part, chunk_count, chunk_at};
+ghost use Rattle.model.specs.Outputs.{plan_of, output_of, audio_part, frame_part, from_part, to_part, chunk_count};
+ghost use Rattle.model.specs.Outputs.{chunk_at};
 ghost use Rattle.model.specs.Outputs.{audio_at, control_value, latest_of, ramp_at, ramp_length, ramp_of, latest_row};
 ghost use Rattle.model.specs.Outputs.{latest_rows, latest_all};
 ghost use Rattle.engine_reads.specs.Spot.{spot_of, shape_by, most_start, Bounded};

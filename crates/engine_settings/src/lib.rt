@@ -2,7 +2,8 @@
 // The definitions are in model's specs/Settings.
 #![tactic(auto)]
 
-ghost use Rattle.std.specs.Prelude.{◌≡◌, false, cond, map, ◌+◌, ◌*◌, ◌<◌, ◌≤◌, min, max, eqb, length, get_or, set, replicate};
+ghost use Rattle.std.specs.Prelude.{◌≡◌, false, cond, map, ◌+◌, ◌*◌, ◌<◌, ◌≤◌, min, max, eqb, length, get_or, set};
+ghost use Rattle.std.specs.Prelude.{replicate};
 ghost use Rattle.config.specs.Sizes.{most_sources, most_destinations, most_voices, most_frames, lane_stride};
 ghost use Rattle.list.specs.Rows.{on_row};
 ghost use Rattle.voice.specs.Marks.{marks_swapped};

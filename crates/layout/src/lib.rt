@@ -24,7 +24,8 @@ pub fn values(voices: usize, frames: usize, plans: usize, routes: usize) -> usiz
 // rows of a lane stride in them
 fn rows(chunks: usize, plans: usize, routes: usize) -> usize
     requires { (chunks ≤ most_chunks most_frames) × (plans ≤ slots) × (routes ≤ slots) }
-    ensures { (result ≡ values_rows chunks plans routes) × (result ≤ values_rows (most_chunks most_frames) slots slots) }
+    ensures { (result ≡ values_rows chunks plans routes)
+        × (result ≤ values_rows (most_chunks most_frames) slots slots) }
 {
     plans * (2 * chunks + 6) + 8 * routes
 }

@@ -12,7 +12,8 @@ use Rattle.state.specs.declared.NoteCurve.TheVariants as N
 use Rattle.state.specs.declared.Slot.{Slot}
 use Rattle.state.specs.declared.Matrix.{Matrix}
 use Rattle.slots.specs.Slots.{empty_slot, first_empty, route_slot, kept_amount, kept_output, cleared, count_aims}
-use Rattle.slots.specs.Slots.{numbers_finite, all_finite, with_amount, with_output, with_bypass, with_polarity, with_aux}
+use Rattle.slots.specs.Slots.{numbers_finite, all_finite, with_amount, with_output, with_bypass, with_polarity}
+use Rattle.slots.specs.Slots.{with_aux}
 use Rattle.slots_tables.specs.Tables.{tables_need, with_table, with_tables, names_table, named_allowed}
 use Rattle.slots_tables.specs.Rows.{finite_row, table_rows, curve_allowed}
 use Rattle.matrix_sorting.specs.Keys.{key_of}

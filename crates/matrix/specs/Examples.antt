@@ -69,8 +69,8 @@ adding : (add_route new_matrix 5 (T.Param 7) (fin false 3 (negsuc 0)) L.Bipolar
     × ((add_route (with_slot new_matrix 0 route) 5 (T.Param 7) one32 L.Bipolar).place ≡ P.At 1)
     × (add_route full 5 (T.Param 7) one32 L.Bipolar ≡ record { code = 0; place = P.Full; matrix = full })
     × (add_route full 5 (T.Param 7) nan L.Bipolar ≡ record { code = 6; place = P.Refused; matrix = full })
-unfolding add_route placed judged finite kept_amount clamp_to lt first_empty is_empty_slot new_matrix with_slot with_slots
-    empty_slot route_slot route full
+unfolding add_route placed judged finite kept_amount clamp_to lt first_empty is_empty_slot new_matrix with_slot
+    with_slots empty_slot route_slot route full
 adding = (refl, refl, refl, refl)
 
 -- every slot with that destination becomes empty; an LFO bus is no parameter
@@ -84,13 +84,14 @@ removing = (refl, refl)
 -- 3/4 of the travel: one way, and with the limit 1/4 of the amount; a NaN position is row 6, also without the limit
 dragging : (drag_route new_matrix 5 (T.Param 7) (fin false 3 (negsuc 1)) one32 false true
     ≡ add_route new_matrix 5 (T.Param 7) (fin false 1 (negsuc 1)) L.Unipolar)
-    × (drag_route new_matrix 5 (T.Param 7) half32 one32 false false ≡ add_route new_matrix 5 (T.Param 7) one32 L.Bipolar)
+    × (drag_route new_matrix 5 (T.Param 7) half32 one32 false false
+    ≡ add_route new_matrix 5 (T.Param 7) one32 L.Bipolar)
     × (drag_route new_matrix 5 (T.Param 7) nan one32 false false
     ≡ record { code = 6; place = P.Refused; matrix = new_matrix })
     × ((drag_route full 5 (T.Param 7) half32 one32 false false).place ≡ P.Full)
-unfolding drag_route dragged_amount depth_at within one_way_room polarity_at two_way centred both_finite abs_of min32 is_nan sub
-    neg le add_route placed judged finite kept_amount clamp_to lt first_empty is_empty_slot new_matrix with_slot with_slots
-    empty_slot route_slot route full
+unfolding drag_route dragged_amount depth_at within one_way_room polarity_at two_way centred both_finite abs_of min32
+    is_nan sub neg le add_route placed judged finite kept_amount clamp_to lt first_empty is_empty_slot new_matrix
+    with_slot with_slots empty_slot route_slot route full
 dragging = (refl, refl, refl, refl)
 
 -- both answer 6 where a number is not finite, with one way and 0
@@ -98,8 +99,8 @@ dragged-alone : (drag_polarity half32 false ≡ record { code = 0; polarity = L.
     × (drag_polarity (inf true) true ≡ record { code = 6; polarity = L.Unipolar })
     × (limit_depth half32 L.Bipolar one32 ≡ record { code = 0; amount = half32 })
     × (limit_depth half32 L.Bipolar nan ≡ record { code = 6; amount = zero32 })
-unfolding drag_polarity limit_depth both_finite finite polarity_at two_way centred abs_of depth_at within one_way_room clamp_to
-    min32 is_nan sub neg lt le
+unfolding drag_polarity limit_depth both_finite finite polarity_at two_way centred abs_of depth_at within one_way_room
+    clamp_to min32 is_nan sub neg lt le
 dragged-alone = (refl, refl, refl, refl)
 
 -- 5 is in use, 6 is free; no LFO is free before no slot is empty; a NaN is row 6 before both
@@ -113,14 +114,14 @@ vibratos : (create_vibrato (with_slot new_matrix 0 route) (5 ∷ 6 ∷ []) 9 (T.
     × (create_vibrato full (5 ∷ []) 9 (T.Param 7) one32 ≡ record { code = 0; place = P.NoFreeLfo; matrix = full })
     × (create_vibrato full (6 ∷ []) 9 (T.Param 7) one32 ≡ record { code = 0; place = P.Full; matrix = full })
     × (create_vibrato full [] 9 (T.Param 7) nan ≡ record { code = 6; place = P.Refused; matrix = full })
-unfolding create_vibrato add_vibrato first_free in_use with_aux placed finite kept_amount clamp_to lt first_empty is_empty_slot
-    new_matrix with_slot with_slots empty_slot route_slot route full
+unfolding create_vibrato add_vibrato first_free in_use with_aux placed finite kept_amount clamp_to lt first_empty
+    is_empty_slot new_matrix with_slot with_slots empty_slot route_slot route full
 vibratos = (refl, refl, refl, refl)
 
 velocities : create_velocity_to_amp new_matrix 5 (T.Param 7) one32
     ≡ record { code = 0; place = P.At 0; matrix = with_slot new_matrix 0 (route_slot 5 (T.Param 7) one32 L.Unipolar) }
-unfolding create_velocity_to_amp add_route placed judged finite kept_amount clamp_to lt first_empty is_empty_slot new_matrix
-    with_slot with_slots empty_slot route_slot
+unfolding create_velocity_to_amp add_route placed judged finite kept_amount clamp_to lt first_empty is_empty_slot
+    new_matrix with_slot with_slots empty_slot route_slot
 velocities = refl
 
 -- ---- tables
@@ -136,9 +137,9 @@ table-codes = (refl, refl, refl, refl)
 -- a matrix that names no table asks for none
 loading : ((load_matrix full [] new_matrix []).answer ≡ record { code = 0; matrix = new_matrix })
     × ((load_matrix full [] (with_velocity new_matrix N.Table) []).answer ≡ record { code = 14; matrix = full })
-unfolding load_matrix tabled answered judged names_table any_names slot_names new_matrix with_velocity empty_slot with_slots
-    route route_slot full matrix_allowed all_finite numbers_finite seconds_finite finite named_allowed slots_allowed
-    slot_allowed place_allowed row_at part all_allowed allowed le
+unfolding load_matrix tabled answered judged names_table any_names slot_names new_matrix with_velocity empty_slot
+    with_slots route route_slot full matrix_allowed all_finite numbers_finite seconds_finite finite named_allowed
+    slots_allowed slot_allowed place_allowed row_at part all_allowed allowed le
 loading = (refl, refl)
 
 -- by source: the empty slot last; a matrix that names a table asks for them
@@ -146,10 +147,10 @@ sorting-two : ((sort_slots (with_slots new_matrix (empty_slot ∷ route ∷ []))
     ≡ record { code = 0; matrix = with_slots new_matrix (route ∷ empty_slot ∷ []) })
     × ((sort_slots (with_velocity new_matrix N.Table) [] S.Destination).answer
     ≡ record { code = 14; matrix = with_velocity new_matrix N.Table })
-unfolding sort_slots sorted_from sorted_places places_of ranks rank_of count_before before key_of slots_at tabled answered
-    judged names_table any_names slot_names is_empty_slot new_matrix with_velocity empty_slot with_slots route route_slot
-    matrix_allowed all_finite numbers_finite seconds_finite finite named_allowed slots_allowed slot_allowed place_allowed row_at
-    part all_allowed allowed le
+unfolding sort_slots sorted_from sorted_places places_of ranks rank_of count_before before key_of slots_at tabled
+    answered judged names_table any_names slot_names is_empty_slot new_matrix with_velocity empty_slot with_slots route
+    route_slot matrix_allowed all_finite numbers_finite seconds_finite finite named_allowed slots_allowed slot_allowed
+    place_allowed row_at part all_allowed allowed le
 sorting-two = (refl, refl)
 
 -- a slot's amount that is not finite, or a number beyond 16 in a named table, is row 6, before row 14; where no curve
@@ -163,16 +164,16 @@ not-loaded : ((load_matrix full [] barred []).answer ≡ record { code = 6; matr
     × ((load_matrix full [] (with_slots new_matrix (with_source_curve (C.Table one32 zero32) empty_slot ∷ []))
     (nan ∷ [])).answer ≡ record { code = 6; matrix = full })
     × ((load_matrix full [] new_matrix (nan ∷ [])).answer ≡ record { code = 0; matrix = new_matrix })
-unfolding load_matrix tabled answered judged names_table any_names slot_names new_matrix with_velocity empty_slot with_slots
-    with_amount with_source_curve route route_slot full barred matrix_allowed all_finite numbers_finite seconds_finite finite
-    named_allowed slots_allowed slot_allowed place_allowed row_at part all_allowed allowed le
+unfolding load_matrix tabled answered judged names_table any_names slot_names new_matrix with_velocity empty_slot
+    with_slots with_amount with_source_curve route route_slot full barred matrix_allowed all_finite numbers_finite
+    seconds_finite finite named_allowed slots_allowed slot_allowed place_allowed row_at part all_allowed allowed le
 not-loaded = (refl, refl, refl, refl)
 
 not-sorted : ((sort_slots barred [] S.Source).answer ≡ record { code = 6; matrix = barred })
     × ((sort_slots (with_slots new_matrix (with_source_curve (C.Table one32 zero32) empty_slot ∷ []))
     (nan ∷ []) S.Source).answer.code ≡ 6)
-unfolding sort_slots sorted_from sorted_places places_of ranks rank_of count_before before key_of slots_at tabled answered
-    judged names_table any_names slot_names is_empty_slot new_matrix with_velocity empty_slot with_slots with_amount
-    with_source_curve barred matrix_allowed all_finite numbers_finite seconds_finite finite named_allowed slots_allowed
-    slot_allowed place_allowed row_at part all_allowed allowed le
+unfolding sort_slots sorted_from sorted_places places_of ranks rank_of count_before before key_of slots_at tabled
+    answered judged names_table any_names slot_names is_empty_slot new_matrix with_velocity empty_slot with_slots
+    with_amount with_source_curve barred matrix_allowed all_finite numbers_finite seconds_finite finite named_allowed
+    slots_allowed slot_allowed place_allowed row_at part all_allowed allowed le
 not-sorted = (refl, refl)

@@ -29,7 +29,8 @@ drag_route m source t at x toggle limit =
 -- matrix.rs 420-426; a refused call answers one way
 unfoldable pub drag_polarity : Float → Bool → PolarityMade
 drag_polarity at toggle =
-    cond (finite at) (record { code = 0; polarity = polarity_at at toggle }) (record { code = 6; polarity = L.Unipolar })
+    cond (finite at) (record { code = 0; polarity = polarity_at at toggle })
+    (record { code = 6; polarity = L.Unipolar })
 
 -- matrix.rs 433-441; a refused call answers 0
 unfoldable pub limit_depth : Float → Polarity → Float → Depth

@@ -3,7 +3,8 @@
 #![tactic(auto)]
 
 ghost use Rattle.std.specs.Prelude.{◌≡◌};
-ghost use Rattle.matrix_editing.specs.Drag.{both_finite, centred, two_way, polarity_at, one_way_room, room_at, depth_at};
+ghost use Rattle.matrix_editing.specs.Drag.{both_finite, centred, two_way, polarity_at, one_way_room, room_at};
+ghost use Rattle.matrix_editing.specs.Drag.{depth_at};
 ghost use Rattle.matrix_editing.specs.Drag.{dragged_amount};
 ghost use Rattle.matrix_editing.specs.Free.{picks_source, in_use, first_free};
 

@@ -290,7 +290,7 @@ call_rows (other o) r = (effect_of o r).rows
 
 -- a list of calls, one after the other
 unfoldable pub run : List Call → Runner → Runner
-unfolding set_held set_voice_held set_base set_amount set_output set_voice_limit set_draw note_on note_off voice_ended swap_program
-    process
+unfolding set_held set_voice_held set_base set_amount set_output set_voice_limit set_draw note_on note_off voice_ended
+    swap_program process
 run [] r = r
 run (c ∷ cs) r = run cs (called c r)

@@ -138,7 +138,8 @@ case2 =
 
 -- "Voices 0, 16, 17: stride 16, 16, 32."
 unfoldable pub case3 : Case
-case3 = record { number = 3; found = lane_stride 0 ∷ lane_stride 16 ∷ lane_stride 17 ∷ []; expected = 16 ∷ 16 ∷ 32 ∷ [] }
+case3 =
+    record { number = 3; found = lane_stride 0 ∷ lane_stride 16 ∷ lane_stride 17 ∷ []; expected = 16 ∷ 16 ∷ 32 ∷ [] }
 
 -- "Linear table i / 512 at −3, 0.5, 1: 0, 0.5, 1."
 unfoldable pub case6 : Case

@@ -1,6 +1,7 @@
 -- The chunks of a block (engine.rs 563-579; document 01, Chunk and value: "Chunks end at period edges. One ticks at
 -- phase 0, or when first while the 'any fresh' mark is set"). Definitions only.
-use Rattle.std.specs.Prelude.{◌≡◌, refl, true, false, cond, ◌&&◌, ◌||◌, List, [], ◌∷◌, map, ℕ, zero, suc, ◌+◌, ◌-◌, ◌*◌, ◌/◌, ◌%◌, min, eqb, ltb}
+use Rattle.std.specs.Prelude.{◌≡◌, refl, true, false, cond, ◌&&◌, ◌||◌, List, [], ◌∷◌, map, ℕ, zero, suc, ◌+◌, ◌-◌, ◌*◌}
+use Rattle.std.specs.Prelude.{◌/◌, ◌%◌, min, eqb, ltb}
 use Rattle.config.specs.Sizes.{period}
 use Rattle.feed.specs.Numbers.{up_from}
 use Rattle.state.specs.declared.Block.{Block}

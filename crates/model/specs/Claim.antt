@@ -26,7 +26,8 @@
 -- phase is 0. No route is plain, since the destination is global. So the sum is the base, 0.25, and the one route's
 -- value, (1 * 1 + 0) * (0.5 * 1) = 0.5: 0.75, which lies between the bounds. The tick leaves 0.75 in lane 0; the rule
 -- asks for 0.75 there and takes nothing else.
-use Rattle.std.specs.Prelude.{◌≡◌, ◌≢◌, Bool, cond, List, [], ◌∷◌, ◌++◌, map, ℕ, zero, suc, ◌<◌, length, get_or, replicate, Float}
+use Rattle.std.specs.Prelude.{◌≡◌, ◌≢◌, Bool, cond, List, [], ◌∷◌, ◌++◌, map, ℕ, zero, suc, ◌<◌, length, get_or}
+use Rattle.std.specs.Prelude.{replicate, Float}
 use Rattle.config.specs.Sizes.{slots, most_sources, most_destinations}
 use Rattle.config.specs.declared.Config.{Config}
 use Rattle.number.specs.Same.{◌≈◌}

@@ -115,21 +115,22 @@ calls5 = swap 1 ∷ quarter ∷ over 0 64 ∷ []
 two-ticks : map told (ticks_of names calls5 fresh)
     ≡ (0 ∷ 0 ∷ 1 ∷ 0 ∷ 0x3f40_0000 ∷ 0x3f40_0000 ∷ [])
     ∷ (32 ∷ 0 ∷ 1 ∷ 0x3f40_0000 ∷ 0x3f40_0000 ∷ 0x3f40_0000 ∷ []) ∷ []
-unfolding empty_slot new_matrix set_draw chunk_ticks slot_route slots_into slot_into route_place counted_into chunk_list process
-    judged chunk_steps chunk_step tick_of turns turn new_to new_from source_after aux_after put_slews fill_from tick_sum others
-    plains offsets some_plain plain route_value input_in in_group sounding in_span plan_at route_at part_of sample_in fill part
-    on_part rows_of_chunk audio_of audio_plans glided moved_held advanced joined moving moved_value moved_glide chunk_total
-    chunk_of load_by active_count draw_routes put_state put_held put_globals put_values put_audio with_velocity with_key
-    with_marks with_phase with_block with_primed with_gains with_program with_draw marks_cleared marks_swapped no_marks no_voices
-    no_notes fresh_state empty_of swap_program compiled padded target_place verdict verdicts_from verdicts candidates
-    skipped_of in_use counted_feed used_dests feeder_of readers_of reads hears_audio is_audio controls audios plan_order order
-    slew_for input_by route_by route_in plan_by plans_of all_routes seconds_of rate_per_sample names_table any_names slot_names
-    hold max32 min32 is_nan lt le eq add sub mul div of_int set_held set_voice_held set_base set_amount set_output
-    set_voice_limit note_on note_off voice_ended run done_by note_curve randoms_set alternates sounded_on ranks_on ended_of
-    newest_after marks_on marks_ended set_note set_value set_glide legato_time ended_note arrives glideMoved held_by draw_voices
-    with_voices with_alternate with_limit put_bases lookup_of position cell_of reach moved slew_step step scrambled draw_bits
-    draw_of row_at on_row kept_amount kept_output clamp_to finite ne neg to_bits to_unsigned audio_frame audio_frames new_audio
-    audio_sum all_plain from_part to_part is_sounding abs_of
+unfolding empty_slot new_matrix set_draw chunk_ticks slot_route slots_into slot_into route_place counted_into chunk_list
+    process judged chunk_steps chunk_step tick_of turns turn new_to new_from source_after aux_after put_slews fill_from
+    tick_sum others plains offsets some_plain plain route_value input_in in_group sounding in_span plan_at route_at
+    part_of sample_in fill part on_part rows_of_chunk audio_of audio_plans glided moved_held advanced joined moving
+    moved_value moved_glide chunk_total chunk_of load_by active_count draw_routes put_state put_held put_globals
+    put_values put_audio with_velocity with_key with_marks with_phase with_block with_primed with_gains with_program
+    with_draw marks_cleared marks_swapped no_marks no_voices no_notes fresh_state empty_of swap_program compiled padded
+    target_place verdict verdicts_from verdicts candidates skipped_of in_use counted_feed used_dests feeder_of
+    readers_of reads hears_audio is_audio controls audios plan_order order slew_for input_by route_by route_in plan_by
+    plans_of all_routes seconds_of rate_per_sample names_table any_names slot_names hold max32 min32 is_nan lt le eq add
+    sub mul div of_int set_held set_voice_held set_base set_amount set_output set_voice_limit note_on note_off
+    voice_ended run done_by note_curve randoms_set alternates sounded_on ranks_on ended_of newest_after marks_on
+    marks_ended set_note set_value set_glide legato_time ended_note arrives glideMoved held_by draw_voices with_voices
+    with_alternate with_limit put_bases lookup_of position cell_of reach moved slew_step step scrambled draw_bits
+    draw_of row_at on_row kept_amount kept_output clamp_to finite ne neg to_bits to_unsigned audio_frame audio_frames
+    new_audio audio_sum all_plain from_part to_part is_sounding abs_of
 two-ticks = refl
 
 -- "Range 0 to 5 with no program; note on, voice ended; swap in case 5; range 0 to 27: one tick at phase 5 ... Without
@@ -142,40 +143,42 @@ noteless = quarter ∷ over 0 5 ∷ swap 1 ∷ over 0 27 ∷ []
 
 one-tick : (map told (ticks_of names calls10 fresh) ≡ (0 ∷ 5 ∷ 1 ∷ 0 ∷ 0x3f40_0000 ∷ 0x3f40_0000 ∷ []) ∷ [])
     × (map told (ticks_of names noteless fresh) ≡ [])
-unfolding empty_slot new_matrix set_draw chunk_ticks slot_route slots_into slot_into route_place counted_into chunk_list process
-    judged chunk_steps chunk_step tick_of turns turn new_to new_from source_after aux_after put_slews fill_from tick_sum others
-    plains offsets some_plain plain route_value input_in in_group sounding in_span plan_at route_at part_of sample_in fill part
-    on_part rows_of_chunk audio_of audio_plans glided moved_held advanced joined moving moved_value moved_glide chunk_total
-    chunk_of load_by active_count draw_routes put_state put_held put_globals put_values put_audio with_velocity with_key
-    with_marks with_phase with_block with_primed with_gains with_program with_draw marks_cleared marks_swapped no_marks no_voices
-    no_notes fresh_state empty_of swap_program compiled padded target_place verdict verdicts_from verdicts candidates
-    skipped_of in_use counted_feed used_dests feeder_of readers_of reads hears_audio is_audio controls audios plan_order order
-    slew_for input_by route_by route_in plan_by plans_of all_routes seconds_of rate_per_sample names_table any_names slot_names
-    hold max32 min32 is_nan lt le eq add sub mul div of_int set_held set_voice_held set_base set_amount set_output
-    set_voice_limit note_on note_off voice_ended run done_by note_curve randoms_set alternates sounded_on ranks_on ended_of
-    newest_after marks_on marks_ended set_note set_value set_glide legato_time ended_note arrives glideMoved held_by draw_voices
-    with_voices with_alternate with_limit put_bases lookup_of position cell_of reach moved slew_step step scrambled draw_bits
-    draw_of row_at on_row kept_amount kept_output clamp_to finite ne neg to_bits to_unsigned audio_frame audio_frames new_audio
-    audio_sum all_plain from_part to_part is_sounding abs_of
+unfolding empty_slot new_matrix set_draw chunk_ticks slot_route slots_into slot_into route_place counted_into chunk_list
+    process judged chunk_steps chunk_step tick_of turns turn new_to new_from source_after aux_after put_slews fill_from
+    tick_sum others plains offsets some_plain plain route_value input_in in_group sounding in_span plan_at route_at
+    part_of sample_in fill part on_part rows_of_chunk audio_of audio_plans glided moved_held advanced joined moving
+    moved_value moved_glide chunk_total chunk_of load_by active_count draw_routes put_state put_held put_globals
+    put_values put_audio with_velocity with_key with_marks with_phase with_block with_primed with_gains with_program
+    with_draw marks_cleared marks_swapped no_marks no_voices no_notes fresh_state empty_of swap_program compiled padded
+    target_place verdict verdicts_from verdicts candidates skipped_of in_use counted_feed used_dests feeder_of
+    readers_of reads hears_audio is_audio controls audios plan_order order slew_for input_by route_by route_in plan_by
+    plans_of all_routes seconds_of rate_per_sample names_table any_names slot_names hold max32 min32 is_nan lt le eq add
+    sub mul div of_int set_held set_voice_held set_base set_amount set_output set_voice_limit note_on note_off
+    voice_ended run done_by note_curve randoms_set alternates sounded_on ranks_on ended_of newest_after marks_on
+    marks_ended set_note set_value set_glide legato_time ended_note arrives glideMoved held_by draw_voices with_voices
+    with_alternate with_limit put_bases lookup_of position cell_of reach moved slew_step step scrambled draw_bits
+    draw_of row_at on_row kept_amount kept_output clamp_to finite ne neg to_bits to_unsigned audio_frame audio_frames
+    new_audio audio_sum all_plain from_part to_part is_sounding abs_of
 one-tick = (refl, refl)
 
 -- as many as are due
 totals : (tick_total calls5 fresh ≡ 2) × ((tick_total calls10 fresh ≡ 1) × (tick_total noteless fresh ≡ 0))
-unfolding empty_slot new_matrix set_draw chunk_ticks slot_route slots_into slot_into route_place counted_into chunk_list process
-    judged chunk_steps chunk_step tick_of turns turn new_to new_from source_after aux_after put_slews fill_from tick_sum others
-    plains offsets some_plain plain route_value input_in in_group sounding in_span plan_at route_at part_of sample_in fill part
-    on_part rows_of_chunk audio_of audio_plans glided moved_held advanced joined moving moved_value moved_glide chunk_total
-    chunk_of load_by active_count draw_routes put_state put_held put_globals put_values put_audio with_velocity with_key
-    with_marks with_phase with_block with_primed with_gains with_program with_draw marks_cleared marks_swapped no_marks no_voices
-    no_notes fresh_state empty_of swap_program compiled padded target_place verdict verdicts_from verdicts candidates
-    skipped_of in_use counted_feed used_dests feeder_of readers_of reads hears_audio is_audio controls audios plan_order order
-    slew_for input_by route_by route_in plan_by plans_of all_routes seconds_of rate_per_sample names_table any_names slot_names
-    hold max32 min32 is_nan lt le eq add sub mul div of_int set_held set_voice_held set_base set_amount set_output
-    set_voice_limit note_on note_off voice_ended run done_by note_curve randoms_set alternates sounded_on ranks_on ended_of
-    newest_after marks_on marks_ended set_note set_value set_glide legato_time ended_note arrives glideMoved held_by draw_voices
-    with_voices with_alternate with_limit put_bases lookup_of position cell_of reach moved slew_step step scrambled draw_bits
-    draw_of row_at on_row kept_amount kept_output clamp_to finite ne neg to_bits to_unsigned audio_frame audio_frames new_audio
-    audio_sum all_plain from_part to_part is_sounding abs_of
+unfolding empty_slot new_matrix set_draw chunk_ticks slot_route slots_into slot_into route_place counted_into chunk_list
+    process judged chunk_steps chunk_step tick_of turns turn new_to new_from source_after aux_after put_slews fill_from
+    tick_sum others plains offsets some_plain plain route_value input_in in_group sounding in_span plan_at route_at
+    part_of sample_in fill part on_part rows_of_chunk audio_of audio_plans glided moved_held advanced joined moving
+    moved_value moved_glide chunk_total chunk_of load_by active_count draw_routes put_state put_held put_globals
+    put_values put_audio with_velocity with_key with_marks with_phase with_block with_primed with_gains with_program
+    with_draw marks_cleared marks_swapped no_marks no_voices no_notes fresh_state empty_of swap_program compiled padded
+    target_place verdict verdicts_from verdicts candidates skipped_of in_use counted_feed used_dests feeder_of
+    readers_of reads hears_audio is_audio controls audios plan_order order slew_for input_by route_by route_in plan_by
+    plans_of all_routes seconds_of rate_per_sample names_table any_names slot_names hold max32 min32 is_nan lt le eq add
+    sub mul div of_int set_held set_voice_held set_base set_amount set_output set_voice_limit note_on note_off
+    voice_ended run done_by note_curve randoms_set alternates sounded_on ranks_on ended_of newest_after marks_on
+    marks_ended set_note set_value set_glide legato_time ended_note arrives glideMoved held_by draw_voices with_voices
+    with_alternate with_limit put_bases lookup_of position cell_of reach moved slew_step step scrambled draw_bits
+    draw_of row_at on_row kept_amount kept_output clamp_to finite ne neg to_bits to_unsigned audio_frame audio_frames
+    new_audio audio_sum all_plain from_part to_part is_sounding abs_of
 totals = (refl, (refl, refl))
 
 -- ---- a swap to the installed number, and the state of the draws
@@ -193,21 +196,22 @@ installed-again : (at (run again fresh).world.state.gains.amount 0 ≡ half32)
     ∷ (32 ∷ 0 ∷ 1 ∷ 0x3f40_0000 ∷ 0x3f40_0000 ∷ 0x3f40_0000 ∷ [])
     ∷ (0 ∷ 0 ∷ 1 ∷ 0x3f40_0000 ∷ 0x3f40_0000 ∷ 0x3f40_0000 ∷ []) ∷ [])
     × ((run again fresh).world.state.draw ≡ 5))))
-unfolding empty_slot new_matrix set_draw chunk_ticks slot_route slots_into slot_into route_place counted_into chunk_list process
-    judged chunk_steps chunk_step tick_of turns turn new_to new_from source_after aux_after put_slews fill_from tick_sum others
-    plains offsets some_plain plain route_value input_in in_group sounding in_span plan_at route_at part_of sample_in fill part
-    on_part rows_of_chunk audio_of audio_plans glided moved_held advanced joined moving moved_value moved_glide chunk_total
-    chunk_of load_by active_count draw_routes put_state put_held put_globals put_values put_audio with_velocity with_key
-    with_marks with_phase with_block with_primed with_gains with_program with_draw marks_cleared marks_swapped no_marks no_voices
-    no_notes fresh_state empty_of swap_program compiled padded target_place verdict verdicts_from verdicts candidates
-    skipped_of in_use counted_feed used_dests feeder_of readers_of reads hears_audio is_audio controls audios plan_order order
-    slew_for input_by route_by route_in plan_by plans_of all_routes seconds_of rate_per_sample names_table any_names slot_names
-    hold max32 min32 is_nan lt le eq add sub mul div of_int set_held set_voice_held set_base set_amount set_output
-    set_voice_limit note_on note_off voice_ended run done_by note_curve randoms_set alternates sounded_on ranks_on ended_of
-    newest_after marks_on marks_ended set_note set_value set_glide legato_time ended_note arrives glideMoved held_by draw_voices
-    with_voices with_alternate with_limit put_bases lookup_of position cell_of reach moved slew_step step scrambled draw_bits
-    draw_of row_at on_row kept_amount kept_output clamp_to finite ne neg to_bits to_unsigned audio_frame audio_frames new_audio
-    audio_sum all_plain from_part to_part is_sounding abs_of
+unfolding empty_slot new_matrix set_draw chunk_ticks slot_route slots_into slot_into route_place counted_into chunk_list
+    process judged chunk_steps chunk_step tick_of turns turn new_to new_from source_after aux_after put_slews fill_from
+    tick_sum others plains offsets some_plain plain route_value input_in in_group sounding in_span plan_at route_at
+    part_of sample_in fill part on_part rows_of_chunk audio_of audio_plans glided moved_held advanced joined moving
+    moved_value moved_glide chunk_total chunk_of load_by active_count draw_routes put_state put_held put_globals
+    put_values put_audio with_velocity with_key with_marks with_phase with_block with_primed with_gains with_program
+    with_draw marks_cleared marks_swapped no_marks no_voices no_notes fresh_state empty_of swap_program compiled padded
+    target_place verdict verdicts_from verdicts candidates skipped_of in_use counted_feed used_dests feeder_of
+    readers_of reads hears_audio is_audio controls audios plan_order order slew_for input_by route_by route_in plan_by
+    plans_of all_routes seconds_of rate_per_sample names_table any_names slot_names hold max32 min32 is_nan lt le eq add
+    sub mul div of_int set_held set_voice_held set_base set_amount set_output set_voice_limit note_on note_off
+    voice_ended run done_by note_curve randoms_set alternates sounded_on ranks_on ended_of newest_after marks_on
+    marks_ended set_note set_value set_glide legato_time ended_note arrives glideMoved held_by draw_voices with_voices
+    with_alternate with_limit put_bases lookup_of position cell_of reach moved slew_step step scrambled draw_bits
+    draw_of row_at on_row kept_amount kept_output clamp_to finite ne neg to_bits to_unsigned audio_frame audio_frames
+    new_audio audio_sum all_plain from_part to_part is_sounding abs_of
 installed-again = (refl, (refl, (refl, (refl, refl))))
 
 -- ---- which wirings are barred
@@ -239,6 +243,6 @@ unread =
     (dest 0 (F.Source 0) ∷ dest 1 (F.Source 1) ∷ dest 2 (F.Source 0) ∷ []) (route 1 0 ∷ route 0 1 ∷ route 2 2 ∷ [])
 
 read-or-not : (chainless unread ≡ false) × (ordered (reads unread) (order (reads unread) (controls unread)) ≡ true)
-unfolding chainless target_place verdict verdicts_from verdicts candidates in_use counted_feed used_dests feeder_of readers_of
-    reads hears_audio is_audio counted_into controls order
+unfolding chainless target_place verdict verdicts_from verdicts candidates in_use counted_feed used_dests feeder_of
+    readers_of reads hears_audio is_audio counted_into controls order
 read-or-not = (refl, refl)

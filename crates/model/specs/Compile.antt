@@ -1,6 +1,7 @@
 -- The calls that make a program (document 01, Plan and route, and rows 6, 13 and 14; program.rs 216-238; docs/CALLS.md,
 -- program). Definitions only.
-use Rattle.std.specs.Prelude.{Bool, false, cond, not, ◌&&◌, ◌||◌, List, [], ◌∷◌, ◌++◌, ℕ, eqb, ltb, length, replicate, Float}
+use Rattle.std.specs.Prelude.{Bool, false, cond, not, ◌&&◌, ◌||◌, List, [], ◌∷◌, ◌++◌, ℕ, eqb, ltb, length, replicate}
+use Rattle.std.specs.Prelude.{Float}
 use Rattle.config.specs.Sizes.{slots}
 use Rattle.config.specs.Configuration.{config_rows, config_code}
 use Rattle.config.specs.declared.Config.{Config}

@@ -1,6 +1,7 @@
 -- Which lanes a route is worked out in, and which it is added to (engine.rs 803-841, 1296-1343; document 01, Chunk and
 -- value). Definitions only.
-use Rattle.std.specs.Prelude.{Bool, true, false, cond, ◌&&◌, ◌||◌, List, ℕ, zero, suc, ◌+◌, ◌-◌, ◌*◌, ◌/◌, eqb, ltb, get_or, Float}
+use Rattle.std.specs.Prelude.{Bool, true, false, cond, ◌&&◌, ◌||◌, List, ℕ, zero, suc, ◌+◌, ◌-◌, ◌*◌, ◌/◌, eqb, ltb}
+use Rattle.std.specs.Prelude.{get_or, Float}
 use Rattle.config.specs.Sizes.{lanes}
 use Rattle.number.specs.Number.{zero32, one32}
 use Rattle.voice.specs.declared.Newest.{Newest}

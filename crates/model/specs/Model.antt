@@ -1,7 +1,8 @@
 -- THE MODEL (document 01, The model): its state is that of the definitions, with control values and slews of its own;
 -- every call does as the definitions say, save that at a tick any numbers that meet the rule may come, or, under a
 -- chain, the definitions' own. Definitions only.
-use Rattle.std.specs.Prelude.{◌≡◌, Bool, true, false, not, cond, ◌&&◌, List, [], ◌∷◌, ℕ, zero, suc, ◌+◌, ◌-◌, eqb, ltb, take, Float}
+use Rattle.std.specs.Prelude.{◌≡◌, Bool, true, false, not, cond, ◌&&◌, List, [], ◌∷◌, ℕ, zero, suc, ◌+◌, ◌-◌, eqb, ltb}
+use Rattle.std.specs.Prelude.{take, Float}
 use Rattle.state.specs.declared.Route.{Route}
 use Rattle.state.specs.declared.Chunk.{Chunk}
 use Rattle.state.specs.declared.Block.{Block}

@@ -1,5 +1,6 @@
 -- Notes on an engine (engine.rs 450-526; document 01, Chunk and value). Definitions only.
-use Rattle.std.specs.Prelude.{Bool, true, false, not, cond, ◌&&◌, ◌||◌, List, [], ◌∷◌, ℕ, zero, suc, ◌+◌, leb, ltb, length, set, pos, Float}
+use Rattle.std.specs.Prelude.{Bool, true, false, not, cond, ◌&&◌, ◌||◌, List, [], ◌∷◌, ℕ, zero, suc, ◌+◌, leb, ltb}
+use Rattle.std.specs.Prelude.{length, set, pos, Float}
 use Rattle.std.specs.Float.{fin}
 use Rattle.draw.specs.Xorshift.{step, draw_of}
 use Rattle.refusal.specs.Judge.{Row, ◌when◌, judged}

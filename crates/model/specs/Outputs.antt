@@ -1,6 +1,7 @@
 -- What is read of an engine: the shape of an output, its rows, chunks and single numbers (engine.rs 105-190, 382-390,
 -- 613-690; document 01, Chunk and value). Definitions only.
-use Rattle.std.specs.Prelude.{◌≡◌, refl, Bool, true, false, not, cond, ◌&&◌, ◌||◌, List, [], ◌∷◌, ◌++◌, map, ℕ, zero, suc, ◌+◌, ◌-◌, ◌*◌, min, eqb, ltb, length, take, Float}
+use Rattle.std.specs.Prelude.{◌≡◌, refl, Bool, true, false, not, cond, ◌&&◌, ◌||◌, List, [], ◌∷◌, ◌++◌, map, ℕ, zero}
+use Rattle.std.specs.Prelude.{suc, ◌+◌, ◌-◌, ◌*◌, min, eqb, ltb, length, take, Float}
 use Rattle.std.specs.Float.{nan}
 use Rattle.config.specs.Sizes.{period, most_destinations}
 use Rattle.feed.specs.Numbers.{up_from}
@@ -129,7 +130,8 @@ audio_part st audio d =
 unfoldable pub frame_part : State → List Float → ℕ → ℕ → Parted
 unfolding part judged
 frame_part st audio d k =
-    part_by (audio_part_rows st audio) (is_audio_plan st d && ltb k (frame_count st)) audio (audio_start st d k) (width_of st d)
+    part_by (audio_part_rows st audio) (is_audio_plan st d && ltb k (frame_count st)) audio (audio_start st d k)
+    (width_of st d)
 
 abbrev pub from_place : State → ℕ → ℕ → ℕ
 from_place st d c = chunk_from (stride_of st) (chunks_most st) (plan_place st d) (width_of st d) c
@@ -202,7 +204,8 @@ program_dests st = min st.program.dests most_destinations
 -- NaN without a plan, without chunks, or where v is not an active voice
 abbrev pub latest_in : State → List Float → List Float → ℕ → ℕ → Float
 latest_in st values audio d v =
-    cond (has_latest st d && (ltb v (voice_count st) && is_sounding st.voices v)) (latest_number st values audio d v) nan
+    cond (has_latest st d && (ltb v (voice_count st) && is_sounding st.voices v))
+    (latest_number st values audio d v) nan
 
 abbrev pub latest_row : State → List Float → List Float → ℕ → ℕ → List Float
 latest_row st values audio n d = map (latest_in st values audio d) (up_from 0 n)

@@ -32,7 +32,8 @@ readers_into d (r ∷ rs) = let later = readers_into d rs in cond (eqb r.candida
 abbrev pub routes_over : Float → Sources → Destinations → List Slot → List Reader → List ℕ → List ℕ → List Route
 routes_over rate ss ds slots rs os [] = []
 routes_over rate ss ds slots rs os (d ∷ l) =
-    routes_in rate ss os slots (is_voice (dest_at ds d).scope) (readers_into d rs) ++ routes_over rate ss ds slots rs os l
+    routes_in rate ss os slots (is_voice (dest_at ds d).scope) (readers_into d rs)
+    ++ routes_over rate ss ds slots rs os l
 
 -- ---- plans
 

@@ -1,6 +1,7 @@
 -- A block: open (load, draws), a step a chunk (tick, chunk rows, audio rows, glides), close (phase, marks) (engine.rs
 -- 547-611, 756-769, 804-1011; document 01, Chunk and value). Definitions only.
-use Rattle.std.specs.Prelude.{Bool, true, false, cond, ◌&&◌, ◌||◌, List, [], ◌∷◌, ℕ, zero, suc, ◌+◌, ◌-◌, ◌*◌, ◌%◌, eqb, ltb, length, get_or, set, Float}
+use Rattle.std.specs.Prelude.{Bool, true, false, cond, ◌&&◌, ◌||◌, List, [], ◌∷◌, ℕ, zero, suc, ◌+◌, ◌-◌, ◌*◌, ◌%◌, eqb}
+use Rattle.std.specs.Prelude.{ltb, length, get_or, set, Float}
 use Rattle.config.specs.Sizes.{period, most_signal_stride}
 use Rattle.draw.specs.Xorshift.{step, draw_of}
 use Rattle.refusal.specs.Judge.{Row, ◌when◌, judged}
@@ -215,7 +216,8 @@ chunk_step samples signals i c w =
 unfoldable pub chunk_steps : List Float → Signals → Block → ℕ → World → World
 unfolding chunk_step
 chunk_steps samples signals b zero w = w
-chunk_steps samples signals b (suc n) w = chunk_step samples signals n (chunk_of b n) (chunk_steps samples signals b n w)
+chunk_steps samples signals b (suc n) w =
+    chunk_step samples signals n (chunk_of b n) (chunk_steps samples signals b n w)
 
 -- ---- close
 

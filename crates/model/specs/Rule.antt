@@ -105,7 +105,8 @@ ruled w t phase v to d l = new_to t phase (dest_mix w d) (seen v to d) (owns_of 
 
 -- the numbers proposed meet the rule in every lane of every control destination in use, as `Same` compares
 abbrev pub Meets : (Float → Float → Type 0) → Wiring → Env → ℕ → Values → Rows → Type 0
-Meets Same w t phase v to = (d l : ℕ) → In d (controls w) → l < lanes_of w t d → Same (to d l) (ruled w t phase v to d l)
+Meets Same w t phase v to =
+    (d l : ℕ) → In d (controls w) → l < lanes_of w t d → Same (to d l) (ruled w t phase v to d l)
 
 -- THE RULE: u after the tick. Ramps and slews follow from the numbers
 pub record Rule (w : Wiring) (t : Env) (phase : ℕ) (v u : Values) : Type 0 where

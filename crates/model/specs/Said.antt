@@ -2,7 +2,8 @@
 -- document 01, and from program.rs and engine.rs for what it leaves to them. It goes by slots, registries, kinds,
 -- ranges and scopes; no compiled route, no plan, no order and no ready-made step stands in it. With the rest of the
 -- definitions it shares binary32's operations, the lookup, the slew step and the holding to bounds. Definitions only.
-use Rattle.std.specs.Prelude.{Bool, true, false, not, cond, ◌&&◌, ◌||◌, List, ℕ, zero, suc, ◌+◌, ◌-◌, ◌*◌, ◌/◌, eqb, leb, ltb, pos, get_or, Float}
+use Rattle.std.specs.Prelude.{Bool, true, false, not, cond, ◌&&◌, ◌||◌, List, ℕ, zero, suc, ◌+◌, ◌-◌, ◌*◌, ◌/◌, eqb}
+use Rattle.std.specs.Prelude.{leb, ltb, pos, get_or, Float}
 use Rattle.std.specs.Float.{inf, fin}
 use Rattle.std.specs.Float.Ieee.{lt, eq}
 use Rattle.config.specs.Sizes.{slots, lanes, period}

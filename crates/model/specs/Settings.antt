@@ -1,6 +1,7 @@
 -- Calls that make an engine, set its numbers, and install a program (engine.rs 273-446). Each with its rows in order; a
 -- refused call changes nothing. Definitions only.
-use Rattle.std.specs.Prelude.{Bool, true, false, not, cond, ◌&&◌, ◌||◌, List, [], ◌∷◌, ◌++◌, map, ℕ, ◌*◌, max, eqb, leb, ltb, length, set, replicate, Float}
+use Rattle.std.specs.Prelude.{Bool, true, false, not, cond, ◌&&◌, ◌||◌, List, [], ◌∷◌, ◌++◌, map, ℕ, ◌*◌, max, eqb, leb}
+use Rattle.std.specs.Prelude.{ltb, length, set, replicate, Float}
 use Rattle.std.specs.Float.Ieee.{eq}
 use Rattle.config.specs.Sizes.{slots, most_sources, most_destinations, most_signal_stride}
 use Rattle.config.specs.Configuration.{config_rows}

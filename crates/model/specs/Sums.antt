@@ -39,7 +39,8 @@ scaled_gain t r = times r.scale (gain_of t r)
 
 abbrev pub plain_step : Env → Rows → Own → Mix → ℕ → ℕ → Route → Float → Float
 plain_step t f s x j l r a =
-    cond (plain t x.voice r && not (is_zero (scaled_gain t r))) (plus a (times (raw_in t f s j l r) (scaled_gain t r))) a
+    cond (plain t x.voice r && not (is_zero (scaled_gain t r)))
+    (plus a (times (raw_in t f s j l r) (scaled_gain t r))) a
 
 unfoldable pub plains : Env → Rows → Own → Mix → ℕ → ℕ → Float
 unfolding plain offsets

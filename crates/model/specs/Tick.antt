@@ -89,7 +89,8 @@ slew_after t x f s j (suc q) = aux_after t x f s j
 -- numbers, starts of ramps and slews of plan d, as given
 abbrev pub put_plan : State → ℕ → ℕ → (ℕ → Float) → (ℕ → Float) → Own → List Float → List Float
 put_plan st d width to start slew m =
-    put_slews st d slew (plan_at st d).count (fill_from (fill_from m (from_start st d) start width) (to_start st d) to width)
+    put_slews st d slew (plan_at st d).count
+    (fill_from (fill_from m (from_start st d) start width) (to_start st d) to width)
 
 -- the turn of plan d
 unfoldable pub turn : State → Env → ℕ → ℕ → List Float → List Float
@@ -99,7 +100,8 @@ turn st t phase d m =
     let f = rows_of st m in
     let s = own_of st m d in
     let old = rows_of st m d in
-    put_plan st d (mix_width t x) (new_to t phase x f s old) (new_from t phase x f s old (lanes_from m (from_start st d)))
+    put_plan st d (mix_width t x) (new_to t phase x f s old)
+    (new_from t phase x f s old (lanes_from m (from_start st d)))
     (slew_after t x f s) m
 
 -- the turns of the first k plans

@@ -1,6 +1,7 @@
 -- `said`, worked out on small sessions: at each tick of them it gives the number that the Rust prints (oracle/cases)
 -- and that the tick leaves. Definitions only.
-use Rattle.std.specs.Prelude.{◌≡◌, refl, true, false, List, [], ◌∷◌, ◌++◌, map, ℕ, Float, pos, negsuc, length, replicate}
+use Rattle.std.specs.Prelude.{◌≡◌, refl, true, false, List, [], ◌∷◌, ◌++◌, map, ℕ, Float, pos, negsuc, length}
+use Rattle.std.specs.Prelude.{replicate}
 use Rattle.std.specs.Float.Ieee.{to_bits, add, sub, mul, div, neg, lt, eq, is_nan, of_int, to_unsigned, le, ne}
 use Rattle.std.specs.Float.{fin, binary32, inf}
 use Rattle.number.specs.Number.{max32, min32, clamp_to, abs_of, hold, finite, half32, zero32, one32}
@@ -129,22 +130,23 @@ constant-said : (said_twice constant [] (quarter ∷ over 0 64 ∷ []) 0 0
     ≡ (0x3f40_0000 ∷ 0x3f40_0000 ∷ []) ∷ (0x3f40_0000 ∷ 0x3f40_0000 ∷ []) ∷ [])
     × (said_twice constant [] (quarter ∷ over 0 5 ∷ note ∷ over 0 27 ∷ []) 0 0
     ≡ (0x3f40_0000 ∷ 0x3f40_0000 ∷ []) ∷ (0x3f40_0000 ∷ 0x3f40_0000 ∷ []) ∷ [])
-unfolding said sum_said plain_sum offset_sum term input_said source_read plain_slot spanned group_active simple_slot slot_voice
-    output_feeder amount_feeder source_feeder is_used sends empty_slot chunk_ticks route_place chunk_list process judged
-    chunk_steps chunk_step tick_of turns turn new_to new_from source_after aux_after put_slews fill_from tick_sum others plains
-    offsets some_plain plain route_value input_in in_group sounding in_span plan_at route_at part_of sample_in fill part on_part
-    rows_of_chunk audio_of audio_plans glided moved_held advanced joined moving moved_value moved_glide chunk_total chunk_of
-    load_by active_count draw_routes put_state put_held put_globals put_values put_audio with_velocity with_key with_marks
-    with_phase with_block with_primed with_gains with_program with_draw marks_cleared marks_swapped no_marks no_voices no_notes
-    fresh_state empty_of swap_program compiled padded target_place verdict verdicts_from verdicts candidates skipped_of
-    in_use counted_feed used_dests feeder_of readers_of reads hears_audio is_audio controls audios plan_order order slew_for
-    input_by route_by route_in plan_by plans_of all_routes seconds_of rate_per_sample names_table any_names slot_names hold max32
-    min32 is_nan lt le eq add sub mul div of_int set_held set_voice_held set_base set_amount set_output set_voice_limit note_on
-    note_off voice_ended run done_by note_curve randoms_set alternates sounded_on ranks_on ended_of newest_after marks_on
+unfolding said sum_said plain_sum offset_sum term input_said source_read plain_slot spanned group_active simple_slot
+    slot_voice output_feeder amount_feeder source_feeder is_used sends empty_slot chunk_ticks route_place chunk_list
+    process judged chunk_steps chunk_step tick_of turns turn new_to new_from source_after aux_after put_slews fill_from
+    tick_sum others plains offsets some_plain plain route_value input_in in_group sounding in_span plan_at route_at
+    part_of sample_in fill part on_part rows_of_chunk audio_of audio_plans glided moved_held advanced joined moving
+    moved_value moved_glide chunk_total chunk_of load_by active_count draw_routes put_state put_held put_globals
+    put_values put_audio with_velocity with_key with_marks with_phase with_block with_primed with_gains with_program
+    with_draw marks_cleared marks_swapped no_marks no_voices no_notes fresh_state empty_of swap_program compiled padded
+    target_place verdict verdicts_from verdicts candidates skipped_of in_use counted_feed used_dests feeder_of
+    readers_of reads hears_audio is_audio controls audios plan_order order slew_for input_by route_by route_in plan_by
+    plans_of all_routes seconds_of rate_per_sample names_table any_names slot_names hold max32 min32 is_nan lt le eq add
+    sub mul div of_int set_held set_voice_held set_base set_amount set_output set_voice_limit note_on note_off
+    voice_ended run done_by note_curve randoms_set alternates sounded_on ranks_on ended_of newest_after marks_on
     marks_ended set_note set_value set_glide legato_time ended_note arrives glideMoved held_by draw_voices with_voices
-    with_alternate with_limit put_bases lookup_of position cell_of reach moved slew_step step scrambled draw_bits draw_of
-    row_at on_row kept_amount kept_output clamp_to finite ne neg to_bits to_unsigned audio_frame audio_frames new_audio audio_sum
-    all_plain from_part to_part is_sounding abs_of
+    with_alternate with_limit put_bases lookup_of position cell_of reach moved slew_step step scrambled draw_bits
+    draw_of row_at on_row kept_amount kept_output clamp_to finite ne neg to_bits to_unsigned audio_frame audio_frames
+    new_audio audio_sum all_plain from_part to_part is_sounding abs_of
 constant-said = (refl, refl)
 
 -- cases/07-slew: rise 1 s, fall 0: 0.5, 1, then 0
@@ -156,22 +158,23 @@ slewing =
 slew-said : said_twice slewing (tabulated diagonal_at ++ replicate 66177 zero32)
     (held-set 0 one32 ∷ over 0 64 ∷ held-set 0 zero32 ∷ over 0 32 ∷ []) 0 0
     ≡ (0x3f00_0000 ∷ 0x3f00_0000 ∷ []) ∷ (0x3f80_0000 ∷ 0x3f80_0000 ∷ []) ∷ (0 ∷ 0 ∷ []) ∷ []
-unfolding said sum_said plain_sum offset_sum term input_said source_read plain_slot spanned group_active simple_slot slot_voice
-    output_feeder amount_feeder source_feeder is_used sends empty_slot chunk_ticks route_place chunk_list process judged
-    chunk_steps chunk_step tick_of turns turn new_to new_from source_after aux_after put_slews fill_from tick_sum others plains
-    offsets some_plain plain route_value input_in in_group sounding in_span plan_at route_at part_of sample_in fill part on_part
-    rows_of_chunk audio_of audio_plans glided moved_held advanced joined moving moved_value moved_glide chunk_total chunk_of
-    load_by active_count draw_routes put_state put_held put_globals put_values put_audio with_velocity with_key with_marks
-    with_phase with_block with_primed with_gains with_program with_draw marks_cleared marks_swapped no_marks no_voices no_notes
-    fresh_state empty_of swap_program compiled padded target_place verdict verdicts_from verdicts candidates skipped_of
-    in_use counted_feed used_dests feeder_of readers_of reads hears_audio is_audio controls audios plan_order order slew_for
-    input_by route_by route_in plan_by plans_of all_routes seconds_of rate_per_sample names_table any_names slot_names hold max32
-    min32 is_nan lt le eq add sub mul div of_int set_held set_voice_held set_base set_amount set_output set_voice_limit note_on
-    note_off voice_ended run done_by note_curve randoms_set alternates sounded_on ranks_on ended_of newest_after marks_on
+unfolding said sum_said plain_sum offset_sum term input_said source_read plain_slot spanned group_active simple_slot
+    slot_voice output_feeder amount_feeder source_feeder is_used sends empty_slot chunk_ticks route_place chunk_list
+    process judged chunk_steps chunk_step tick_of turns turn new_to new_from source_after aux_after put_slews fill_from
+    tick_sum others plains offsets some_plain plain route_value input_in in_group sounding in_span plan_at route_at
+    part_of sample_in fill part on_part rows_of_chunk audio_of audio_plans glided moved_held advanced joined moving
+    moved_value moved_glide chunk_total chunk_of load_by active_count draw_routes put_state put_held put_globals
+    put_values put_audio with_velocity with_key with_marks with_phase with_block with_primed with_gains with_program
+    with_draw marks_cleared marks_swapped no_marks no_voices no_notes fresh_state empty_of swap_program compiled padded
+    target_place verdict verdicts_from verdicts candidates skipped_of in_use counted_feed used_dests feeder_of
+    readers_of reads hears_audio is_audio controls audios plan_order order slew_for input_by route_by route_in plan_by
+    plans_of all_routes seconds_of rate_per_sample names_table any_names slot_names hold max32 min32 is_nan lt le eq add
+    sub mul div of_int set_held set_voice_held set_base set_amount set_output set_voice_limit note_on note_off
+    voice_ended run done_by note_curve randoms_set alternates sounded_on ranks_on ended_of newest_after marks_on
     marks_ended set_note set_value set_glide legato_time ended_note arrives glideMoved held_by draw_voices with_voices
-    with_alternate with_limit put_bases lookup_of position cell_of reach moved slew_step step scrambled draw_bits draw_of
-    row_at on_row kept_amount kept_output clamp_to finite ne neg to_bits to_unsigned audio_frame audio_frames new_audio audio_sum
-    all_plain from_part to_part is_sounding abs_of
+    with_alternate with_limit put_bases lookup_of position cell_of reach moved slew_step step scrambled draw_bits
+    draw_of row_at on_row kept_amount kept_output clamp_to finite ne neg to_bits to_unsigned audio_frame audio_frames
+    new_audio audio_sum all_plain from_part to_part is_sounding abs_of
 slew-said = refl
 
 -- cases/09-bipolar: the smallest number is not halved and doubled
@@ -181,22 +184,23 @@ bipolar =
     (any_slot 0 C.Linear 0 one32 Q.Bipolar ∷ [])
 
 bipolar-said : said_twice bipolar [] (held-set 0 (fin false 1 (negsuc 148)) ∷ over 0 32 ∷ []) 0 0 ≡ (1 ∷ 1 ∷ []) ∷ []
-unfolding said sum_said plain_sum offset_sum term input_said source_read plain_slot spanned group_active simple_slot slot_voice
-    output_feeder amount_feeder source_feeder is_used sends empty_slot chunk_ticks route_place chunk_list process judged
-    chunk_steps chunk_step tick_of turns turn new_to new_from source_after aux_after put_slews fill_from tick_sum others plains
-    offsets some_plain plain route_value input_in in_group sounding in_span plan_at route_at part_of sample_in fill part on_part
-    rows_of_chunk audio_of audio_plans glided moved_held advanced joined moving moved_value moved_glide chunk_total chunk_of
-    load_by active_count draw_routes put_state put_held put_globals put_values put_audio with_velocity with_key with_marks
-    with_phase with_block with_primed with_gains with_program with_draw marks_cleared marks_swapped no_marks no_voices no_notes
-    fresh_state empty_of swap_program compiled padded target_place verdict verdicts_from verdicts candidates skipped_of
-    in_use counted_feed used_dests feeder_of readers_of reads hears_audio is_audio controls audios plan_order order slew_for
-    input_by route_by route_in plan_by plans_of all_routes seconds_of rate_per_sample names_table any_names slot_names hold max32
-    min32 is_nan lt le eq add sub mul div of_int set_held set_voice_held set_base set_amount set_output set_voice_limit note_on
-    note_off voice_ended run done_by note_curve randoms_set alternates sounded_on ranks_on ended_of newest_after marks_on
+unfolding said sum_said plain_sum offset_sum term input_said source_read plain_slot spanned group_active simple_slot
+    slot_voice output_feeder amount_feeder source_feeder is_used sends empty_slot chunk_ticks route_place chunk_list
+    process judged chunk_steps chunk_step tick_of turns turn new_to new_from source_after aux_after put_slews fill_from
+    tick_sum others plains offsets some_plain plain route_value input_in in_group sounding in_span plan_at route_at
+    part_of sample_in fill part on_part rows_of_chunk audio_of audio_plans glided moved_held advanced joined moving
+    moved_value moved_glide chunk_total chunk_of load_by active_count draw_routes put_state put_held put_globals
+    put_values put_audio with_velocity with_key with_marks with_phase with_block with_primed with_gains with_program
+    with_draw marks_cleared marks_swapped no_marks no_voices no_notes fresh_state empty_of swap_program compiled padded
+    target_place verdict verdicts_from verdicts candidates skipped_of in_use counted_feed used_dests feeder_of
+    readers_of reads hears_audio is_audio controls audios plan_order order slew_for input_by route_by route_in plan_by
+    plans_of all_routes seconds_of rate_per_sample names_table any_names slot_names hold max32 min32 is_nan lt le eq add
+    sub mul div of_int set_held set_voice_held set_base set_amount set_output set_voice_limit note_on note_off
+    voice_ended run done_by note_curve randoms_set alternates sounded_on ranks_on ended_of newest_after marks_on
     marks_ended set_note set_value set_glide legato_time ended_note arrives glideMoved held_by draw_voices with_voices
-    with_alternate with_limit put_bases lookup_of position cell_of reach moved slew_step step scrambled draw_bits draw_of
-    row_at on_row kept_amount kept_output clamp_to finite ne neg to_bits to_unsigned audio_frame audio_frames new_audio audio_sum
-    all_plain from_part to_part is_sounding abs_of
+    with_alternate with_limit put_bases lookup_of position cell_of reach moved slew_step step scrambled draw_bits
+    draw_of row_at on_row kept_amount kept_output clamp_to finite ne neg to_bits to_unsigned audio_frame audio_frames
+    new_audio audio_sum all_plain from_part to_part is_sounding abs_of
 bipolar-said = refl
 
 -- cases/13-c12: destination 1 feeds the amount of slot 0, which reads 0.5 + 0.25 after the tick; destination 0 is 0.25
@@ -209,22 +213,23 @@ fed-amount =
 
 fed-said : (said_twice fed-amount [] (quarter ∷ over 0 32 ∷ []) 0 0 ≡ (0x3f80_0000 ∷ 0x3f80_0000 ∷ []) ∷ [])
     × (said_twice fed-amount [] (quarter ∷ over 0 32 ∷ []) 1 0 ≡ (0x3f40_0000 ∷ 0x3f40_0000 ∷ []) ∷ [])
-unfolding said sum_said plain_sum offset_sum term input_said source_read plain_slot spanned group_active simple_slot slot_voice
-    output_feeder amount_feeder source_feeder is_used sends empty_slot chunk_ticks route_place chunk_list process judged
-    chunk_steps chunk_step tick_of turns turn new_to new_from source_after aux_after put_slews fill_from tick_sum others plains
-    offsets some_plain plain route_value input_in in_group sounding in_span plan_at route_at part_of sample_in fill part on_part
-    rows_of_chunk audio_of audio_plans glided moved_held advanced joined moving moved_value moved_glide chunk_total chunk_of
-    load_by active_count draw_routes put_state put_held put_globals put_values put_audio with_velocity with_key with_marks
-    with_phase with_block with_primed with_gains with_program with_draw marks_cleared marks_swapped no_marks no_voices no_notes
-    fresh_state empty_of swap_program compiled padded target_place verdict verdicts_from verdicts candidates skipped_of
-    in_use counted_feed used_dests feeder_of readers_of reads hears_audio is_audio controls audios plan_order order slew_for
-    input_by route_by route_in plan_by plans_of all_routes seconds_of rate_per_sample names_table any_names slot_names hold max32
-    min32 is_nan lt le eq add sub mul div of_int set_held set_voice_held set_base set_amount set_output set_voice_limit note_on
-    note_off voice_ended run done_by note_curve randoms_set alternates sounded_on ranks_on ended_of newest_after marks_on
+unfolding said sum_said plain_sum offset_sum term input_said source_read plain_slot spanned group_active simple_slot
+    slot_voice output_feeder amount_feeder source_feeder is_used sends empty_slot chunk_ticks route_place chunk_list
+    process judged chunk_steps chunk_step tick_of turns turn new_to new_from source_after aux_after put_slews fill_from
+    tick_sum others plains offsets some_plain plain route_value input_in in_group sounding in_span plan_at route_at
+    part_of sample_in fill part on_part rows_of_chunk audio_of audio_plans glided moved_held advanced joined moving
+    moved_value moved_glide chunk_total chunk_of load_by active_count draw_routes put_state put_held put_globals
+    put_values put_audio with_velocity with_key with_marks with_phase with_block with_primed with_gains with_program
+    with_draw marks_cleared marks_swapped no_marks no_voices no_notes fresh_state empty_of swap_program compiled padded
+    target_place verdict verdicts_from verdicts candidates skipped_of in_use counted_feed used_dests feeder_of
+    readers_of reads hears_audio is_audio controls audios plan_order order slew_for input_by route_by route_in plan_by
+    plans_of all_routes seconds_of rate_per_sample names_table any_names slot_names hold max32 min32 is_nan lt le eq add
+    sub mul div of_int set_held set_voice_held set_base set_amount set_output set_voice_limit note_on note_off
+    voice_ended run done_by note_curve randoms_set alternates sounded_on ranks_on ended_of newest_after marks_on
     marks_ended set_note set_value set_glide legato_time ended_note arrives glideMoved held_by draw_voices with_voices
-    with_alternate with_limit put_bases lookup_of position cell_of reach moved slew_step step scrambled draw_bits draw_of
-    row_at on_row kept_amount kept_output clamp_to finite ne neg to_bits to_unsigned audio_frame audio_frames new_audio audio_sum
-    all_plain from_part to_part is_sounding abs_of
+    with_alternate with_limit put_bases lookup_of position cell_of reach moved slew_step step scrambled draw_bits
+    draw_of row_at on_row kept_amount kept_output clamp_to finite ne neg to_bits to_unsigned audio_frame audio_frames
+    new_audio audio_sum all_plain from_part to_part is_sounding abs_of
 fed-said = (refl, refl)
 
 -- cases/t28-plain-offsets-summed-first: two plain routes whose offsets, added one by one to the base 1, would be lost;
@@ -238,20 +243,21 @@ offsets-said : (said_twice offset-twice [] (base-set 0 one32 ∷ note ∷ over 0
     ≡ (0x3f80_0001 ∷ 0x3f80_0001 ∷ []) ∷ [])
     × (said_twice offset-twice [] (base-set 0 one32 ∷ note ∷ over 0 32 ∷ []) 0 15
     ≡ (0x3f80_0001 ∷ 0x3f80_0001 ∷ []) ∷ [])
-unfolding said sum_said plain_sum offset_sum term input_said source_read plain_slot spanned group_active simple_slot slot_voice
-    output_feeder amount_feeder source_feeder is_used sends empty_slot chunk_ticks route_place chunk_list process judged
-    chunk_steps chunk_step tick_of turns turn new_to new_from source_after aux_after put_slews fill_from tick_sum others plains
-    offsets some_plain plain route_value input_in in_group sounding in_span plan_at route_at part_of sample_in fill part on_part
-    rows_of_chunk audio_of audio_plans glided moved_held advanced joined moving moved_value moved_glide chunk_total chunk_of
-    load_by active_count draw_routes put_state put_held put_globals put_values put_audio with_velocity with_key with_marks
-    with_phase with_block with_primed with_gains with_program with_draw marks_cleared marks_swapped no_marks no_voices no_notes
-    fresh_state empty_of swap_program compiled padded target_place verdict verdicts_from verdicts candidates skipped_of
-    in_use counted_feed used_dests feeder_of readers_of reads hears_audio is_audio controls audios plan_order order slew_for
-    input_by route_by route_in plan_by plans_of all_routes seconds_of rate_per_sample names_table any_names slot_names hold max32
-    min32 is_nan lt le eq add sub mul div of_int set_held set_voice_held set_base set_amount set_output set_voice_limit note_on
-    note_off voice_ended run done_by note_curve randoms_set alternates sounded_on ranks_on ended_of newest_after marks_on
+unfolding said sum_said plain_sum offset_sum term input_said source_read plain_slot spanned group_active simple_slot
+    slot_voice output_feeder amount_feeder source_feeder is_used sends empty_slot chunk_ticks route_place chunk_list
+    process judged chunk_steps chunk_step tick_of turns turn new_to new_from source_after aux_after put_slews fill_from
+    tick_sum others plains offsets some_plain plain route_value input_in in_group sounding in_span plan_at route_at
+    part_of sample_in fill part on_part rows_of_chunk audio_of audio_plans glided moved_held advanced joined moving
+    moved_value moved_glide chunk_total chunk_of load_by active_count draw_routes put_state put_held put_globals
+    put_values put_audio with_velocity with_key with_marks with_phase with_block with_primed with_gains with_program
+    with_draw marks_cleared marks_swapped no_marks no_voices no_notes fresh_state empty_of swap_program compiled padded
+    target_place verdict verdicts_from verdicts candidates skipped_of in_use counted_feed used_dests feeder_of
+    readers_of reads hears_audio is_audio controls audios plan_order order slew_for input_by route_by route_in plan_by
+    plans_of all_routes seconds_of rate_per_sample names_table any_names slot_names hold max32 min32 is_nan lt le eq add
+    sub mul div of_int set_held set_voice_held set_base set_amount set_output set_voice_limit note_on note_off
+    voice_ended run done_by note_curve randoms_set alternates sounded_on ranks_on ended_of newest_after marks_on
     marks_ended set_note set_value set_glide legato_time ended_note arrives glideMoved held_by draw_voices with_voices
-    with_alternate with_limit put_bases lookup_of position cell_of reach moved slew_step step scrambled draw_bits draw_of
-    row_at on_row kept_amount kept_output clamp_to finite ne neg to_bits to_unsigned audio_frame audio_frames new_audio audio_sum
-    all_plain from_part to_part is_sounding abs_of
+    with_alternate with_limit put_bases lookup_of position cell_of reach moved slew_step step scrambled draw_bits
+    draw_of row_at on_row kept_amount kept_output clamp_to finite ne neg to_bits to_unsigned audio_frame audio_frames
+    new_audio audio_sum all_plain from_part to_part is_sounding abs_of
 offsets-said = (refl, refl)

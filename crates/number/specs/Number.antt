@@ -1,5 +1,6 @@
 -- Single numbers of 32 bits, over the kit's account of IEEE 754 (lib.Ieee). Definitions only.
-use Rattle.std.specs.Prelude.{ℕ, ◌+◌, ◌*◌, ◌/◌, ◌%◌, ◌^◌, Bool, true, false, cond, ◌||◌, pos, negsuc, ◌==◌, is_nan, Float}
+use Rattle.std.specs.Prelude.{ℕ, ◌+◌, ◌*◌, ◌/◌, ◌%◌, ◌^◌, Bool, true, false, cond, ◌||◌, pos, negsuc, ◌==◌, is_nan}
+use Rattle.std.specs.Prelude.{Float}
 use Rattle.std.specs.Float.{nan, inf, fin, binary32}
 use Rattle.std.specs.Float.Ieee.{add, sub, mul, div, lt, eq, to_unsigned, of_int}
 

@@ -1,5 +1,6 @@
 -- The definitions, computed.
-use Rattle.std.specs.Prelude.{◌≡◌, refl, Bool, true, false, List, [], ◌∷◌, ◌++◌, ℕ, ◌+◌, ◌-◌, ◌*◌, pos, replicate, Float}
+use Rattle.std.specs.Prelude.{◌≡◌, refl, Bool, true, false, List, [], ◌∷◌, ◌++◌, ℕ, ◌+◌, ◌-◌, ◌*◌, pos, replicate}
+use Rattle.std.specs.Prelude.{Float}
 use Rattle.std.specs.Float.{nan, fin}
 use Rattle.std.specs.Float.Ieee.{le}
 use Rattle.config.specs.Sizes.{slots}
@@ -31,7 +32,8 @@ use Rattle.program.specs.declared.PlanRead.TheVariants as P
 use Rattle.program.specs.declared.RouteRead.TheVariants as R
 use Rattle.program.specs.declared.SkippedRead.TheVariants as S
 use Rattle.program.specs.declared.RateRead.TheVariants as T
-use Rattle.program.specs.Readers.{route_count, plan_count, skip_count, plan_at, route_at, skipped_at, rate_from, rate_of}
+use Rattle.program.specs.Readers.{route_count, plan_count, skip_count, plan_at, route_at, skipped_at, rate_from}
+use Rattle.program.specs.Readers.{rate_of}
 use Rattle.program.specs.Readers.{config_of}
 
 -- ---- what a program tells: destination 5 at audio rate, 7 at control rate; more routes than there can be; slot 9 left
@@ -73,7 +75,8 @@ plans : (plan_at some 1 ≡ P.Plan (plan_of 5 true)) × (plan_at some 2 ≡ P.No
 unfolding some plan_at plan_count route_at route_count
 plans = (refl, refl, refl)
 
-left_out : (skipped_at some 0 ≡ S.Skipped (record { slot = 9; reason = E.UnknownAux })) × (skipped_at some 1 ≡ S.Nothing)
+left_out : (skipped_at some 0 ≡ S.Skipped (record { slot = 9; reason = E.UnknownAux }))
+    × (skipped_at some 1 ≡ S.Nothing)
 unfolding some skipped_at skip_count
 left_out = (refl, refl)
 
@@ -112,8 +115,8 @@ codes : (code new_matrix (at one32 64) [] ≡ 0) × (code new_matrix (at zero32 
     × (code (with_velocity new_matrix N.Table) (at one32 64) [] ≡ 14)
     × (code (with_velocity new_matrix N.Table) (at one32 64)
     (replicate (velocity_place * points) zero32 ++ (fin false 17 (pos 0) ∷ [])) ≡ 6)
-unfolding compile judged names_table any_names slot_names named_allowed slots_allowed slot_allowed place_allowed row_at part
-    all_allowed allowed all_finite numbers_finite seconds_finite finite le new_matrix with_slot with_slots with_velocity
-    with_amount empty_slot compiled padded verdict verdicts_from verdicts candidates skipped_of in_use controls audios reads
-    readers_of is_audio plan_order order plans_of all_routes
+unfolding compile judged names_table any_names slot_names named_allowed slots_allowed slot_allowed place_allowed row_at
+    part all_allowed allowed all_finite numbers_finite seconds_finite finite le new_matrix with_slot with_slots
+    with_velocity with_amount empty_slot compiled padded verdict verdicts_from verdicts candidates skipped_of in_use
+    controls audios reads readers_of is_audio plan_order order plans_of all_routes
 codes = (refl, refl, refl, refl, refl)

@@ -19,7 +19,8 @@ rate64 : Float
 rate64 = fin false 1 (pos 6)
 
 -- a rise of 1 second at 64 samples a second: half of full scale in 32 samples; of 0 seconds: without limit
-rises : (reach (rate_per_sample one32 rate64) period ≡ half32) × (reach (rate_per_sample zero32 rate64) period ≡ inf false)
+rises : (reach (rate_per_sample one32 rate64) period ≡ half32)
+    × (reach (rate_per_sample zero32 rate64) period ≡ inf false)
 unfolding rate_per_sample reach period rate64 lt eq mul div
 rises = (refl, refl)
 
@@ -44,7 +45,8 @@ case-7 = (refl, refl, refl)
 
 -- a slew that stands still stays, takes what is left where it snaps, and becomes a NaN where its input is a NaN or an
 -- infinity
-stands : (slew_step zero32 zero32 zero32 quarter one32 ≡ quarter) × (slew_step zero32 zero32 one32 quarter one32 ≡ one32)
+stands : (slew_step zero32 zero32 zero32 quarter one32 ≡ quarter)
+    × (slew_step zero32 zero32 one32 quarter one32 ≡ one32)
     × (slew_step zero32 zero32 zero32 quarter nan ≡ nan) × (slew_step zero32 zero32 zero32 quarter (inf false) ≡ nan)
 unfolding slew_step moved quarter max32 min32 is_nan lt neg add sub mul
 stands = (refl, refl, refl, refl)

@@ -6,7 +6,8 @@ ghost use Rattle.std.specs.Prelude.{◌≡◌, map, ◌≤◌};
 ghost use Rattle.slots.specs.Matrix.{slot_of, with_slots, with_velocity, with_key};
 ghost use Rattle.slots.specs.Slots.{empty_slot, no_source, no_destination, is_empty_slot, route_slot, kept_amount};
 ghost use Rattle.slots.specs.Slots.{kept_output, with_amount, with_output, with_bypass, with_polarity, with_aux};
-ghost use Rattle.slots.specs.Slots.{with_source_curve, with_aux_curve, numbers_finite, all_finite, first_empty, aims_at};
+ghost use Rattle.slots.specs.Slots.{with_source_curve, with_aux_curve, numbers_finite, all_finite, first_empty};
+ghost use Rattle.slots.specs.Slots.{aims_at};
 ghost use Rattle.slots.specs.Slots.{cleared, one_if, count_aims};
 
 use config::SLOTS;

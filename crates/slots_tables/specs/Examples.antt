@@ -60,6 +60,6 @@ judging : (named_allowed (of plain plain N.Linear) memory ≡ true)
     × (named_allowed (of bent-source bent-aux N.Table) memory ≡ true)
     × (named_allowed (of bent-aux plain N.Linear) memory ≡ false)
     × (named_allowed (of plain bent-source N.Linear) memory ≡ false)
-unfolding named_allowed slots_allowed slot_allowed place_allowed row_at part all_allowed allowed finite le curved of plain
-    bent-source bent-aux memory
+unfolding named_allowed slots_allowed slot_allowed place_allowed row_at part all_allowed allowed finite le curved of
+    plain bent-source bent-aux memory
 judging = (refl, refl, refl, refl)

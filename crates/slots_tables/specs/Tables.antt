@@ -1,5 +1,6 @@
 -- The matrix's lent tables: places of a table's numbers (docs/CALLS.md, Memories). Definitions only.
-use Rattle.std.specs.Prelude.{◌≡◌, refl, Bool, true, false, not, ◌&&◌, ◌||◌, List, [], ◌∷◌, ℕ, suc, ◌+◌, ◌-◌, ◌*◌, Float}
+use Rattle.std.specs.Prelude.{◌≡◌, refl, Bool, true, false, not, ◌&&◌, ◌||◌, List, [], ◌∷◌, ℕ, suc, ◌+◌, ◌-◌, ◌*◌}
+use Rattle.std.specs.Prelude.{Float}
 use Rattle.list.specs.Part.{part, on_part}
 use Rattle.list.specs.Rows.{row_at, on_row}
 use Rattle.config.specs.Sizes.{slots}
@@ -80,5 +81,6 @@ named_allowed m tables =
     && (allowed_where (is_table m.key) tables key_place && slots_allowed tables 0 m.slot)
 
 -- the places do not meet: after the last slot's come the note curves', and then no more
-last-slot : (slot_place (slots - 1) 1 + 1 ≡ velocity_place) × (velocity_place + 1 ≡ key_place) × (key_place + 1 ≡ places)
+last-slot : (slot_place (slots - 1) 1 + 1 ≡ velocity_place) × (velocity_place + 1 ≡ key_place)
+    × (key_place + 1 ≡ places)
 last-slot = (refl, refl, refl)

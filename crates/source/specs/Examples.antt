@@ -57,7 +57,8 @@ stated-too-long = (refl, refl, refl)
 abbrev with-count : ℕ → Sources
 with-count n = record { count = n; entry = a-new-entry ∷ blankEntry ∷ long-entry ∷ blankEntry ∷ [] }
 
-counts : (source_count (with-count 2) ≡ 2) × (source_count (with-count 128) ≡ 128) × (source_count (with-count 900) ≡ 128)
+counts : (source_count (with-count 2) ≡ 2) × (source_count (with-count 128) ≡ 128)
+    × (source_count (with-count 900) ≡ 128)
     × (sources_empty (with-count 0) ≡ true) × (sources_empty (with-count 900) ≡ false)
 counts = (refl, refl, refl, refl, refl)
 
@@ -92,7 +93,8 @@ accepted = refl
 
 -- a registered key is 9; one of 33 bytes is 15, and one of 32 accepted
 refused : (add-to 2 lfo ≡ record { code = 9; id = 0; sources = with-count 2 }) × ((add-to 2 []).code ≡ 9)
-    × (add-to 2 (times-a 33) ≡ record { code = 15; id = 0; sources = with-count 2 }) × ((add-to 2 (times-a 32)).code ≡ 0)
+    × (add-to 2 (times-a 33) ≡ record { code = 15; id = 0; sources = with-count 2 })
+    × ((add-to 2 (times-a 32)).code ≡ 0)
 unfolding add_source with_entry find_key registered judged key_is key_of same_bytes new_entry key_array
 refused = (refl, refl, refl, refl)
 

@@ -1,6 +1,7 @@
 -- The registry of sources: its entries, "numbered from 0 in order of adding" (document 01, Source entry; source.rs
 -- 171-213, 326-346). Definitions only.
-use Rattle.std.specs.Prelude.{Bool, true, false, cond, List, [], ◌∷◌, ℕ, zero, suc, ◌+◌, eqb, ltb, leb, length, take, get_or, set, replicate}
+use Rattle.std.specs.Prelude.{Bool, true, false, cond, List, [], ◌∷◌, ℕ, zero, suc, ◌+◌, eqb, ltb, leb, length, take}
+use Rattle.std.specs.Prelude.{get_or, set, replicate}
 use Rattle.refusal.specs.Judge.{Row, ◌when◌, judged}
 use Rattle.reply.specs.Reply.{Reply, accepts, refuses, by_rows}
 use Rattle.config.specs.Sizes.{most_sources}

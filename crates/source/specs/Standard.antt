@@ -1,6 +1,7 @@
 -- The standard sources: which entries, in which order, and what refuses them (source.rs 146-160, 216-322;
 -- docs/CALLS.md). Definitions only.
-use Rattle.std.specs.Prelude.{Bool, true, false, cond, ◌&&◌, ◌||◌, List, [], ◌∷◌, ℕ, zero, suc, ◌+◌, ◌*◌, eqb, ltb, leb, length, take, drop}
+use Rattle.std.specs.Prelude.{Bool, true, false, cond, ◌&&◌, ◌||◌, List, [], ◌∷◌, ℕ, zero, suc, ◌+◌, ◌*◌, eqb, ltb, leb}
+use Rattle.std.specs.Prelude.{length, take, drop}
 use Rattle.refusal.specs.Judge.{Row, ◌when◌, judged}
 use Rattle.config.specs.Sizes.{most_sources}
 use Rattle.state.specs.declared.Kind.TheVariants as K

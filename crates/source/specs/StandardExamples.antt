@@ -37,8 +37,8 @@ at key = find_key 0 key (registered (all_sources ones (osc ∷ [])))
 order : ((all_sources ones (osc ∷ [])).count ≡ 24) × (at (numbered_key env_word [] 1) ≡ F.At 0)
     × (at (numbered_key lfo_word [] 1) ≡ F.At 1) × (at (numbered_key lfo_word after_y 1) ≡ F.At 2)
     × (at velocity_key ≡ F.At 3) × (at osc ≡ F.At 19) × (at seq_index_key ≡ F.At 22) × (at random_route_key ≡ F.At 23)
-unfolding all_sources with_sequence with_audio with_controllers with_note_sources with_lfos lfo_pair with_numbered counted
-    with_source with_entry new_entry key_array decimal no_sources find_key registered key_is key_of same_bytes
+unfolding all_sources with_sequence with_audio with_controllers with_note_sources with_lfos lfo_pair with_numbered
+    counted with_source with_entry new_entry key_array decimal no_sources find_key registered key_is key_of same_bytes
 order = (refl, refl, refl, refl, refl, refl, refl, refl)
 
 abbrev code : Counts → List ℕ → List ℕ → ℕ
@@ -47,7 +47,8 @@ code n bytes lengths = (standard_sources n bytes lengths).code
 -- 17 entries where nothing is counted, and no index
 fewest : ((standard_sources none [] []).sources.count ≡ 17) × (code none [] [] ≡ 0)
 unfolding standard_sources judged clashes audio_keys standard_count total any_long all_sources with_sequence with_audio
-    with_controllers with_note_sources with_lfos with_numbered counted with_source with_entry new_entry key_array no_sources
+    with_controllers with_note_sources with_lfos with_numbered counted with_source with_entry new_entry key_array
+    no_sources
 fewest = (refl, refl)
 
 -- an audio key that is "key", or stands twice, is 9, also above 32 bytes; 111 envelopes fit and 112 are 12; short bytes
@@ -57,9 +58,9 @@ codes : (code none key_key (3 ∷ []) ≡ 9) × (code none (97 ∷ 97 ∷ []) (1
     (code (record { envelopes = 112; lfos = 0; macros = 0; sequence_values = 0 }) [] [] ≡ 12)
     × (code (record { envelopes = 111; lfos = 0; macros = 0; sequence_values = 0 }) [] [] ≡ 0)
     × (code none (97 ∷ []) (1 ∷ 1 ∷ []) ≡ 14) × (code none (replicate 33 97) (33 ∷ []) ≡ 15)
-unfolding standard_sources judged clashes standard_key sequence_key is_numbered number_then read_on has fixed_sources any_same
-    audio_keys standard_count total any_long with_sequence with_controllers with_note_sources with_numbered counted with_source
-    with_entry new_entry key_array no_sources find_key registered key_is key_of same_bytes
+unfolding standard_sources judged clashes standard_key sequence_key is_numbered number_then read_on has fixed_sources
+    any_same audio_keys standard_count total any_long with_sequence with_controllers with_note_sources with_numbered
+    counted with_source with_entry new_entry key_array no_sources find_key registered key_is key_of same_bytes
 codes = (refl, refl, refl, refl, refl, refl, refl)
 
 abbrev envelopes : ℕ → Counts
@@ -76,9 +77,9 @@ env0150 = 101 ∷ 110 ∷ 118 ∷ 48 ∷ 49 ∷ 53 ∷ 48 ∷ []
 both : (code (envelopes 200) env150 (6 ∷ []) ≡ 9) × (code (envelopes 150) env150 (6 ∷ []) ≡ 9)
     × (code (envelopes 149) env150 (6 ∷ []) ≡ 12) × (code (envelopes 200) env0150 (7 ∷ []) ≡ 12)
     × (code (envelopes 110) env150 (6 ∷ []) ≡ 0)
-unfolding standard_sources judged clashes standard_key sequence_key is_numbered number_then read_on has fixed_sources any_same
-    audio_keys standard_count total any_long with_sequence with_controllers with_note_sources with_numbered counted with_source
-    with_entry new_entry key_array no_sources find_key registered key_is key_of same_bytes decimal
+unfolding standard_sources judged clashes standard_key sequence_key is_numbered number_then read_on has fixed_sources
+    any_same audio_keys standard_count total any_long with_sequence with_controllers with_note_sources with_numbered
+    counted with_source with_entry new_entry key_array no_sources find_key registered key_is key_of same_bytes decimal
 both = (refl, refl, refl, refl, refl)
 
 -- which keys are numbered ones: "lfo12_y" up to 12 only, "lfo_y", "lfo1_z" and "env1_y" never
@@ -86,7 +87,8 @@ numbered : (is_numbered lfo_word after_y 12 (numbered_key lfo_word after_y 12) �
     × (is_numbered lfo_word after_y 11 (numbered_key lfo_word after_y 12) ≡ false)
     × (is_numbered lfo_word after_y 12 (108 ∷ 102 ∷ 111 ∷ 95 ∷ 121 ∷ []) ≡ false)
     × (is_numbered lfo_word after_y 12 (108 ∷ 102 ∷ 111 ∷ 49 ∷ 95 ∷ 122 ∷ []) ≡ false)
-    × (is_numbered env_word [] 12 (numbered_key env_word after_y 1) ≡ false) × (is_numbered env_word [] 12 env_word ≡ false)
+    × (is_numbered env_word [] 12 (numbered_key env_word after_y 1) ≡ false)
+    × (is_numbered env_word [] 12 env_word ≡ false)
     × (is_numbered seq_word [] 7 (numbered_key seq_word [] 7) ≡ true)
     × (is_numbered macro_word [] 7 (numbered_key macro_word [] 0) ≡ false)
 unfolding is_numbered number_then read_on same_bytes decimal
@@ -133,8 +135,8 @@ one-of-each =
     ∷ []
 
 ran-one-of-each : registered (all_sources ones (osc ∷ [] ∷ [])) ≡ one-of-each
-unfolding all_sources with_sequence with_audio with_controllers with_note_sources with_lfos lfo_pair with_numbered counted
-    with_source with_entry new_entry key_array decimal no_sources registered
+unfolding all_sources with_sequence with_audio with_controllers with_note_sources with_lfos lfo_pair with_numbered
+    counted with_source with_entry new_entry key_array decimal no_sources registered
 ran-one-of-each = refl
 
 abbrev ten-and-two : List Source
@@ -178,6 +180,6 @@ ten-and-two =
 
 ran-ten-and-two : registered (all_sources (record { envelopes = 10; lfos = 2; macros = 0; sequence_values = 0 }) [])
     ≡ ten-and-two
-unfolding all_sources with_sequence with_audio with_controllers with_note_sources with_lfos lfo_pair with_numbered counted
-    with_source with_entry new_entry key_array decimal no_sources registered
+unfolding all_sources with_sequence with_audio with_controllers with_note_sources with_lfos lfo_pair with_numbered
+    counted with_source with_entry new_entry key_array decimal no_sources registered
 ran-ten-and-two = refl

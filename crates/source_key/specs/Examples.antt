@@ -10,7 +10,8 @@ unfolding decimal
 decimals = (refl, refl, refl)
 
 -- five bytes are written after one
-written : ((put_all (put_byte blank_text 101) (1 ∷ 2 ∷ 3 ∷ 4 ∷ 5 ∷ [])).len ≡ 6) × ((put_all blank_text (decimal 10)).len ≡ 2)
+written : ((put_all (put_byte blank_text 101) (1 ∷ 2 ∷ 3 ∷ 4 ∷ 5 ∷ [])).len ≡ 6)
+    × ((put_all blank_text (decimal 10)).len ≡ 2)
 unfolding put_all put_byte blank_text decimal
 written = (refl, refl)
 

@@ -9,7 +9,8 @@ use Rattle.voice.specs.declared.Voices.{Voices}
 use Rattle.voice.specs.declared.Marks.{Marks}
 use Rattle.voice.specs.declared.Notes.{Notes}
 use Rattle.voice.specs.Joined.{joined}
-use Rattle.voice.specs.Voices.{rank_of, no_voices, ranks_on, sounded_on, released_of, newest_after, ended_of, is_sounding}
+use Rattle.voice.specs.Voices.{rank_of, no_voices, ranks_on, sounded_on, released_of, newest_after, ended_of}
+use Rattle.voice.specs.Voices.{is_sounding}
 use Rattle.voice.specs.Voices.{active_count}
 use Rattle.voice.specs.Marks.{no_marks, marks_on, marks_ended, marks_swapped, marks_cleared}
 use Rattle.voice.specs.Notes.{legato_time, set_glide, set_value, set_lane, moving, arrives, moved, moved_value}
@@ -37,7 +38,8 @@ numbered = (refl, refl, refl, refl, refl)
 -- the newest ends: the one that sounded before it, not the lowest active; another ends: the newest stays; all end:
 -- nobody
 newest : ((ended_of sounded 7).newest ≡ Voice 5) × ((ended_of sounded 5).newest ≡ Voice 7)
-    × ((ended_of (ended_of sounded 5) 7).newest ≡ Voice 2) × ((ended_of (ended_of (ended_of sounded 5) 7) 2).newest ≡ Nobody)
+    × ((ended_of (ended_of sounded 5) 7).newest ≡ Voice 2)
+    × ((ended_of (ended_of (ended_of sounded 5) 7) 2).newest ≡ Nobody)
     × ((released_of sounded 7).newest ≡ Voice 7)
 unfolding ended_of newest_after released_of sounded sounded_on ranks_on no_voices
 newest = (refl, refl, refl, refl, refl)
@@ -118,8 +120,8 @@ case-8 = (refl, refl, refl, refl, refl, refl)
 other-ways : (value_of (advanced to_one 1000) 3 ≡ one32)
     × (value_of (advanced (set_note (set_note no_notes 3 one32 L.NoGlide rate64) 3 zero32 (L.Glide one32) rate64) 32) 3
     ≡ half32) × (value_of (advanced to_one 32) 4 ≡ zero32) × (gliding to_one ≡ true) × (gliding no_notes ≡ false)
-unfolding gliding any_moving to_one set_note set_value set_glide no_notes advanced joined moved_value moved_glide moved arrives
-    moving rate64 abs_of lt le eq ne add sub mul div of_int
+unfolding gliding any_moving to_one set_note set_value set_glide no_notes advanced joined moved_value moved_glide moved
+    arrives moving rate64 abs_of lt le eq ne add sub mul div of_int
 other-ways = (refl, refl, refl, refl, refl)
 
 -- seconds times rate overflows: the step is 0, and the value neither moves nor arrives. It underflows to 0: the step is
@@ -133,8 +135,8 @@ at_once = set_note no_notes 0 one32 (L.Glide least) half32
 traps : (glide_of never 0 ≡ record { target = one32; step = zero32 }) × (value_of (advanced never 4096) 0 ≡ zero32)
     × (glide_of at_once 0 ≡ record { target = one32; step = inf false }) × (value_of at_once 0 ≡ zero32)
     × (value_of (advanced at_once 1) 0 ≡ one32) × (gliding (advanced at_once 1) ≡ false)
-unfolding gliding any_moving never at_once set_note set_value set_glide no_notes advanced joined moved_value moved_glide moved
-    arrives moving longest least rate64 abs_of lt le eq ne add sub mul div of_int
+unfolding gliding any_moving never at_once set_note set_value set_glide no_notes advanced joined moved_value moved_glide
+    moved arrives moving longest least rate64 abs_of lt le eq ne add sub mul div of_int
 traps = (refl, refl, refl, refl, refl, refl)
 
 -- no glide to the value that is there already, and none without a legato time; a voice that ends stays where it is
@@ -142,8 +144,8 @@ no-glides : (gliding (set_note no_notes 0 zero32 (L.Glide one32) rate64) ≡ fal
     × (value_of (set_note to_one 3 two32 L.NoGlide rate64) 3 ≡ two32)
     × (gliding (set_note to_one 3 two32 L.NoGlide rate64) ≡ false)
     × (value_of (advanced (ended_note (advanced to_one 32) 3) 32) 3 ≡ half32)
-unfolding gliding any_moving to_one ended_note set_note set_value set_glide no_notes advanced joined moved_value moved_glide
-    moved arrives moving rate64 abs_of lt le eq ne add sub mul div of_int
+unfolding gliding any_moving to_one ended_note set_note set_value set_glide no_notes advanced joined moved_value
+    moved_glide moved arrives moving rate64 abs_of lt le eq ne add sub mul div of_int
 no-glides = (refl, refl, refl, refl)
 
 -- a legato note glides if the program does and the seconds are above 0
@@ -156,5 +158,6 @@ times-of = (refl, refl, refl, refl, refl)
 -- a held lane: taken at once, kept at the start of a glide, taken as the glide moves, kept where it stands
 lanes : (set_lane zero32 one32 L.NoGlide half32 ≡ one32) × (set_lane zero32 one32 (L.Glide one32) half32 ≡ half32)
     × (moved_lane (glide_of to_one 3) one32 half32 ≡ one32) × (moved_lane (glide_of to_one 4) one32 half32 ≡ half32)
-unfolding set_lane moved_lane to_one set_note set_value set_glide no_notes moving rate64 abs_of lt le eq ne add sub mul div
+unfolding set_lane moved_lane to_one set_note set_value set_glide no_notes moving rate64 abs_of lt le eq ne add sub mul
+    div
 lanes = (refl, refl, refl, refl)

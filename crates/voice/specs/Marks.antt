@@ -1,6 +1,7 @@
 -- Marks of voices: fresh lanes start at their new values, renoted ones take new random numbers (document 01, Chunk and
 -- value). Beside them stand the two any-marks, which outlive the voice that set them (case 10). Definitions only.
-use Rattle.std.specs.Prelude.{◌≡◌, Bool, true, false, cond, not, ◌||◌, List, [], ◌∷◌, ℕ, ltb, length, get_or, set, replicate}
+use Rattle.std.specs.Prelude.{◌≡◌, Bool, true, false, cond, not, ◌||◌, List, [], ◌∷◌, ℕ, ltb, length, get_or, set}
+use Rattle.std.specs.Prelude.{replicate}
 use Rattle.config.specs.Sizes.{most_voices}
 use Rattle.voice.specs.Joined.{joined}
 use Rattle.voice.specs.declared.Marks.{Marks}

@@ -1,6 +1,7 @@
 -- What ranks say: in which order the voices sounded last, as the Rust's numbers have it (engine.rs 457-458, 515-519).
 -- Definitions only; proofs/Ranks.antt, Since.antt, Right.antt and After.antt have the theorems.
-use Rattle.std.specs.Prelude.{◌≡◌, Bool, true, false, cond, ◌⊎◌, List, [], ◌∷◌, ℕ, zero, suc, ◌+◌, ◌≤◌, ◌<◌, eqb, ltb, length, get_or}
+use Rattle.std.specs.Prelude.{◌≡◌, Bool, true, false, cond, ◌⊎◌, List, [], ◌∷◌, ℕ, zero, suc, ◌+◌, ◌≤◌, ◌<◌, eqb, ltb}
+use Rattle.std.specs.Prelude.{length, get_or}
 use Rattle.config.specs.Sizes.{most_voices}
 use Rattle.voice.specs.declared.Newest.{Newest}
 use Rattle.voice.specs.declared.Newest.TheVariants.{Nobody, Voice}

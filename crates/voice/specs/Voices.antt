@@ -2,7 +2,8 @@
 -- Rust gives each voice the number of its last note-on, counted from the engine's start. Here a voice has a rank, the
 -- number of voices that sounded since: such ranks never run out, and order the voices as the Rust's numbers do
 -- (proofs/Ranks.antt).
-use Rattle.std.specs.Prelude.{Bool, true, false, cond, List, [], ◌∷◌, map, ℕ, zero, suc, ◌+◌, eqb, ltb, get_or, set, take, replicate}
+use Rattle.std.specs.Prelude.{Bool, true, false, cond, List, [], ◌∷◌, map, ℕ, zero, suc, ◌+◌, eqb, ltb, get_or, set}
+use Rattle.std.specs.Prelude.{take, replicate}
 use Rattle.config.specs.Sizes.{most_voices}
 use Rattle.voice.specs.declared.Newest.{Newest}
 use Rattle.voice.specs.declared.Newest.TheVariants.{Nobody, Voice}
