@@ -57,8 +57,8 @@ module _ (w : Wiring) (slotted : length w.matrix.slot ≡ slots) (t : Env) (phas
   m = dest_mix w d
 
   -- a lane of the stride
-  lane_in : (row : ℕ → Float) (l : ℕ) → l < t.stride → laned t.stride row l ≡ row l
-  lane_in row l h = ap (λ (b : Bool). cond b (row l) nan) (lt-ltb l t.stride h)
+  lane-in : (row : ℕ → Float) (l : ℕ) → l < t.stride → laned t.stride row l ≡ row l
+  lane-in row l h = ap (λ (b : Bool). cond b (row l) nan) (lt-ltb l t.stride h)
 
   -- ---- where ramps start
 
@@ -83,8 +83,8 @@ module _ (w : Wiring) (slotted : length w.matrix.slot ≡ slots) (t : Env) (phas
       ramp-by (kept t phase m l) (starting t m l || not t.primed) (v.from d l) (v.to d l) (held_sum t f s m l)
       (to d l) e
       ∙ sym (cond_same (stays_same w t phase v o proposed d l) refl
-      (cond_same (ap (λ (b : Bool). b || not t.primed) (starting-same l)) (lane_in (to d) l k)
-      (lane_in (v.to d) l k)))
+      (cond_same (ap (λ (b : Bool). b || not t.primed) (starting-same l)) (lane-in (to d) l k)
+      (lane-in (v.to d) l k)))
 
   -- ---- slews
 
@@ -115,8 +115,8 @@ module _ (w : Wiring) (slotted : length w.matrix.slot ≡ slots) (t : Env) (phas
     stands : Stands w c
     stands = sent-stands w d slotted n h b
 
-    worked_same : worked t (dest_voice w d) r.voice l ≡ worked_in w x proposed d c.slot l
-    worked_same =
+    worked-same : worked t (dest_voice w d) r.voice l ≡ worked_in w x proposed d c.slot l
+    worked-same =
         worked-by (dest_voice w d) r.voice l
         ∙ ap₂ (λ (a e : Bool).
         cond e (cond a (group_active w x l) (newest_group w x proposed d l t.voices.newest)) (ltb l lanes))
@@ -127,7 +127,7 @@ module _ (w : Wiring) (slotted : length w.matrix.slot ≡ slots) (t : Env) (phas
         ap₂ (λ (a e : Bool). not a && e)
         (ap₂ ◌||◌ (plain-same w fed t phase v o to d at j stands (sent-dest w d slotted n h b))
         (idle-same w fed t phase v o to d at j stands))
-        worked_same
+        worked-same
 
     -- a slew is there
     slews-same : (g : Slot → Curve) → not (free_slew (slew_for w.config.sample_rate (g (slot_of w c))))
@@ -143,7 +143,7 @@ module _ (w : Wiring) (slotted : length w.matrix.slot ≡ slots) (t : Env) (phas
     source-slew =
         cond_same (ap₂ ◌&&◌ (slews-same (λ (z : Slot). z.source_curve)) moves-same)
         (input-is w fed t phase v o to d at j stands 0 l c.source (λ (z : Slot). z.source_curve))
-        (sym (lane_in (v.own c.slot 0) l k))
+        (sym (lane-in (v.own c.slot 0) l k))
         ∙ sym (ap (slew_said w x proposed d c.slot 0 l (slot_n w c.slot).source_curve) stands.source)
         ∙ ap (λ (i : ℕ). slew_said w x proposed d i 0 l (slot_n w i).source_curve (slot_n w i).source)
         (sent-slot w d slotted n h b)
@@ -153,11 +153,11 @@ module _ (w : Wiring) (slotted : length w.matrix.slot ≡ slots) (t : Env) (phas
         (aux_by w.config.sample_rate w.sources a (fed_from (feeder_of w (aux_thing a))) (slot_of w c).aux_curve)
         ≡ slew_said w x proposed d c.slot 1 l (slot_n w c.slot).aux_curve (pick_of a)
     unfolding slot_route route_by input_by
-    aux-by U.Nothing = sym (lane_in (v.own c.slot 1) l k)
+    aux-by U.Nothing = sym (lane-in (v.own c.slot 1) l k)
     aux-by (U.Source i) =
         cond_same (ap₂ ◌&&◌ (slews-same (λ (z : Slot). z.aux_curve)) moves-same)
         (input-is w fed t phase v o to d at j stands 1 l i (λ (z : Slot). z.aux_curve))
-        (sym (lane_in (v.own c.slot 1) l k))
+        (sym (lane-in (v.own c.slot 1) l k))
 
     -- THE SLEW OF AN AUX
     pub aux-slew : aux_after t m f s j l ≡ slew_of_aux w x proposed d n l
