@@ -24,8 +24,8 @@ use Rattle.model.proofs.LentFrames.{held_tables, held-frame, voice-held-frame, b
 
 -- ---- by parts
 
-world_is : {u v : World} → u.state ≡ v.state → u.held ≡ v.held → u.globals ≡ v.globals → u.bases ≡ v.bases → u.values ≡ v.values → u.audio ≡ v.audio → u.tables ≡ v.tables → u ≡ v
-world_is {u = u} {v = v} a b c d e f g =
+world-is : {u v : World} → u.state ≡ v.state → u.held ≡ v.held → u.globals ≡ v.globals → u.bases ≡ v.bases → u.values ≡ v.values → u.audio ≡ v.audio → u.tables ≡ v.tables → u ≡ v
+world-is {u = u} {v = v} a b c d e f g =
     let q : world_of u.state u.held u.globals u.bases u.values u.audio u.tables ≡ world_of v.state v.held v.globals v.bases v.values v.audio v.tables = cc (a, b, c, d, e, f, g) in q
 
 runner-of : World → List Kept → ℕ → Runner
@@ -59,7 +59,7 @@ module _ (k : ℕ) (r : Runner) (n : ℕ) (q : Runner) (h : Installs k r n q) wh
       e.kept
       ∙ ap (λ (x : Program). set r.kept r.installed (record { program = x; values = r.world.values; audio = r.world.audio; tables = r.world.tables })) back in
       runner-is q (exchanged r k (kept_at r k)).world (exchanged r k (kept_at r k)).kept k
-      (world_is h.promise.1.0 h.engine.0 h.engine.1.0 h.engine.1.1 e.values e.audio e.tables)
+      (world-is h.promise.1.0 h.engine.0 h.engine.1.0 h.engine.1.1 e.values e.audio e.tables)
       kept
       e.installed
       ∙ sym (cond-true (ltb k (length r.kept)) (exchanged r k (kept_at r k)) r (lt-ltb k (length r.kept) h.there))
@@ -70,7 +70,7 @@ module _ (k : ℕ) (r : Runner) (n : ℕ) (q : Runner) (h : Installs k r n q) wh
   refuses t =
       let e = h.refused (λ z. not-both (eqb (swap_program st p).code 0) (eq-eqb (swap_program st p).code 0 (sym h.promise.0 ∙ z)) t) in
       on-is r q r.world e.1.1
-      (world_is (h.promise.1.0 ∙ cond-false (eqb (judged (swap_rows st p)) 0) (installed st p) st t) h.engine.0 h.engine.1.0 h.engine.1.1 e.0.0 e.0.1 e.1.0)
+      (world-is (h.promise.1.0 ∙ cond-false (eqb (judged (swap_rows st p)) 0) (installed st p) st t) h.engine.0 h.engine.1.0 h.engine.1.1 e.0.0 e.0.1 e.1.0)
       ∙ sym (cond-false (eqb (swap_program st p).code 0) (cond (ltb k (length r.kept)) (exchanged r k (kept_at r k)) r) r t)
 
   installs-is : q ≡ swapped r k
@@ -84,35 +84,35 @@ module _ (r : Runner) (n : ℕ) (q : Runner) where
 
   other-is : (o : Other) → AnsweredBy (other o) r n q → q ≡ (effect_of o r).left
   other-is (set-held i x) (p, s) =
-      on-is r q _ s.1.1.1 (world_is p.1.0 p.1.1.0 p.1.1.1 s.0 s.1.0.0 s.1.0.1 s.1.1.0)
+      on-is r q _ s.1.1.1 (world-is p.1.0 p.1.1.0 p.1.1.1 s.0 s.1.0.0 s.1.0.1 s.1.1.0)
       ∙ ap (on_world r) (sym (held-frame u i x))
   other-is (set-voice-held i v x) (p, s) =
-      on-is r q _ s.1.1.1.1 (world_is p.1.0 p.1.1 s.0 s.1.0 s.1.1.0.0 s.1.1.0.1 s.1.1.1.0)
+      on-is r q _ s.1.1.1.1 (world-is p.1.0 p.1.1 s.0 s.1.0 s.1.1.0.0 s.1.1.0.1 s.1.1.1.0)
       ∙ ap (on_world r) (sym (voice-held-frame u i v x))
   other-is (set-base d x) (p, s) =
-      on-is r q _ s.1.1.1.1 (world_is p.1.0 s.0 s.1.0 p.1.1 s.1.1.0.0 s.1.1.0.1 s.1.1.1.0)
+      on-is r q _ s.1.1.1.1 (world-is p.1.0 s.0 s.1.0 p.1.1 s.1.1.0.0 s.1.1.0.1 s.1.1.1.0)
       ∙ ap (on_world r) (sym (base-frame u d x))
   other-is (set-amount i x) (p, s) =
-      on-is r q _ s.1.1.1.1.1 (world_is p.1 s.0 s.1.0 s.1.1.0 s.1.1.1.0.0 s.1.1.1.0.1 s.1.1.1.1.0)
+      on-is r q _ s.1.1.1.1.1 (world-is p.1 s.0 s.1.0 s.1.1.0 s.1.1.1.0.0 s.1.1.1.0.1 s.1.1.1.1.0)
       ∙ ap (on_world r) (sym (amount-frame u i x))
   other-is (set-output i x) (p, s) =
-      on-is r q _ s.1.1.1.1.1 (world_is p.1 s.0 s.1.0 s.1.1.0 s.1.1.1.0.0 s.1.1.1.0.1 s.1.1.1.1.0)
+      on-is r q _ s.1.1.1.1.1 (world-is p.1 s.0 s.1.0 s.1.1.0 s.1.1.1.0.0 s.1.1.1.0.1 s.1.1.1.1.0)
       ∙ ap (on_world r) (sym (output-frame u i x))
   other-is (set-limit m) (p, s) =
-      on-is r q _ s.1.1.1.1.1 (world_is p.1 s.0 s.1.0 s.1.1.0 s.1.1.1.0.0 s.1.1.1.0.1 s.1.1.1.1.0)
+      on-is r q _ s.1.1.1.1.1 (world-is p.1 s.0 s.1.0 s.1.1.0 s.1.1.1.0.0 s.1.1.1.0.1 s.1.1.1.1.0)
       ∙ ap (on_world r) (sym (limit-frame u m))
   other-is (set-draw x) (p, s) =
-      on-is r q _ s.1.1.1.1.1 (world_is p.0 s.0 s.1.0 s.1.1.0 s.1.1.1.0.0 s.1.1.1.0.1 s.1.1.1.1.0)
+      on-is r q _ s.1.1.1.1.1 (world-is p.0 s.0 s.1.0 s.1.1.0 s.1.1.1.0.0 s.1.1.1.0.1 s.1.1.1.1.0)
       ∙ ap (on_world r) (sym (draw-frame u x))
   other-is (start-note v note) (p, s) =
       on-is r q _ s.1.1.1.1
-      (world_is p.1.0 p.1.1 s.0 s.1.0 s.1.1.0.0 s.1.1.0.1 (s.1.1.1.0 ∙ sym (note-tables v note (held_tables u))))
+      (world-is p.1.0 p.1.1 s.0 s.1.0 s.1.1.0.0 s.1.1.0.1 (s.1.1.1.0 ∙ sym (note-tables v note (held_tables u))))
       ∙ ap (on_world r) (sym (note-on-frame u v note))
   other-is (release-note v x) (p, s) =
-      on-is r q _ s.1.1.1.1 (world_is p.1.0 p.1.1 s.0 s.1.0 s.1.1.0.0 s.1.1.0.1 s.1.1.1.0)
+      on-is r q _ s.1.1.1.1 (world-is p.1.0 p.1.1 s.0 s.1.0 s.1.1.0.0 s.1.1.0.1 s.1.1.1.0)
       ∙ ap (on_world r) (sym (note-off-frame u v x))
   other-is (end-voice v) (p, s) =
-      on-is r q _ s.1.1.1.1.1 (world_is p.1 s.0 s.1.0 s.1.1.0 s.1.1.1.0.0 s.1.1.1.0.1 s.1.1.1.1.0)
+      on-is r q _ s.1.1.1.1.1 (world-is p.1 s.0 s.1.0 s.1.1.0 s.1.1.1.0.0 s.1.1.1.0.1 s.1.1.1.1.0)
       ∙ ap (on_world r) (sym (ended-frame u v))
   other-is (install k) (p, s) = installs-is k r n q p
   other-is (lend-program k values audio tables) (p, s) = p.0
@@ -140,12 +140,12 @@ module _ (r : Runner) (n : ℕ) (q : Runner) where
   by-is (block samples signals start end) (a, (l, (bases, (tables, s)))) =
       let f = block-spares u samples signals start end in
       on-is r q (process u samples signals start end).world s
-      (world_is a.1 l.0 l.1.0 (bases ∙ sym f.bases) l.1.1.0 l.1.1.1 (tables ∙ sym f.tables))
+      (world-is a.1 l.0 l.1.0 (bases ∙ sym f.bases) l.1.1.0 l.1.1.1 (tables ∙ sym f.tables))
   by-is (other o) a = other-is o a
 
-  by_code : (c : Call) → AnsweredBy c r n q → n ≡ code_of c r
-  by_code (block samples signals start end) a = a.0.0
-  by_code (other o) a = other-code o a
+  by-code : (c : Call) → AnsweredBy c r n q → n ≡ code_of c r
+  by-code (block samples signals start end) a = a.0.0
+  by-code (other o) a = other-code o a
 
 -- A STEP THAT IS ANSWERED IS THE MODEL'S
 pub answered-is : (c : Call) (r q : Runner) → Answered c r q → q ≡ called c r
@@ -153,4 +153,4 @@ answered-is c r q a = by-is r a.code q c a.answered
 
 -- and its number is
 pub answered-code : (c : Call) (r q : Runner) (a : Answered c r q) → a.code ≡ code_of c r
-answered-code c r q a = by_code r a.code q c a.answered
+answered-code c r q a = by-code r a.code q c a.answered

@@ -32,7 +32,7 @@ use Rattle.model.proofs.ShownRows.{sizes_at}
 use Rattle.model.proofs.BlockShows.{sizes-frame}
 use Rattle.model.proofs.BlockLeaves.{OffAudio}
 use Rattle.model.proofs.BlockUntouched.{moved, step-stay, chunk-last}
-use Rattle.model.proofs.BlockLaws.{clear_of, frames-differ}
+use Rattle.model.proofs.BlockLaws.{clear-of, frames-differ}
 use Rattle.model.proofs.AudioShows.{given_at, sounds_at, env_in, steps-long, after-gives, chunks-follow}
 
 audio-needs : {u v : World} → Frame u v → audio_need_of v.state ≡ audio_need_of u.state
@@ -97,7 +97,7 @@ module _ (w : Wiring) (slotted : length w.matrix.slot ≡ slots) (samples : List
     off : OffAudio z (control_total u.state.program) (suc f) b.end (start z (of_frame d f) + l)
     off e g a k s q =
         let away : g ≢ f = λ r. omega arith in
-        clear_of z (of_frame e g) (of_frame d f) l lane
+        clear-of z (of_frame e g) (of_frame d f) l lane
         (parts-apart z (stride-least (voice_count u.state)) (of_frame e g) (of_frame d f) (k, omega arith) (there, omega (arith, inside)) (frames-differ e d f g away))
 
     -- AFTER EACH LATER CHUNK

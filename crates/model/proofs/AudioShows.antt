@@ -29,7 +29,7 @@ use Rattle.model.proofs.LayoutHolds.{parts-inside, parts-apart}
 use Rattle.model.proofs.ProgramLayout.{stride-least}
 use Rattle.model.proofs.FillFrom.{fill-length, fill-inside, fill-outside}
 use Rattle.model.proofs.ShownRows.{sizes_at}
-use Rattle.model.proofs.BlockLaws.{clear_of, frames-differ, plans-differ}
+use Rattle.model.proofs.BlockLaws.{clear-of, frames-differ, plans-differ}
 
 -- THE NUMBER THAT FRAME j OF A CHUNK GIVES plan d in lane l; m: as it stood before the frame
 abbrev pub given_at : State → Env → Chunk → ℕ → ℕ → Sounds → ℕ → Float
@@ -56,12 +56,12 @@ module _ (st : State) (t : Env) (same : t.stride ≡ stride_of st) (c : Chunk) w
     wide e = ap (λ (s : ℕ). plan_width s (plan_at st e).voice) same
 
     -- another row is filled
-    row_keeps : (e f : ℕ) (m : List Float) (g : ℕ → Float) → e < plan_total st.program → f < frame_count st → of_frame e f ≢ of_frame d (c.start + j)
+    row-keeps : (e f : ℕ) (m : List Float) (g : ℕ → Float) → e < plan_total st.program → f < frame_count st → of_frame e f ≢ of_frame d (c.start + j)
         → at (fill_from m (start (sizes_at st) (of_frame e f)) g (plan_width t.stride (plan_at st e).voice)) spot ≡ at m spot
-    row_keeps e f m g a b ne =
+    row-keeps e f m g a b ne =
         ap (λ (x : ℕ). at (fill_from m (start (sizes_at st) (of_frame e f)) g x) spot) (wide e)
         ∙ fill-outside m (start (sizes_at st) (of_frame e f)) g (row_width (sizes_at st) e) spot
-        (clear_of (sizes_at st) (of_frame e f) (of_frame d (c.start + j)) l lane
+        (clear-of (sizes_at st) (of_frame e f) (of_frame d (c.start + j)) l lane
         (parts-apart (sizes_at st) (stride-least (voice_count st)) (of_frame e f) (of_frame d (c.start + j)) (a, b) (there, omega arith) ne))
 
     frame-gives : (m : Sounds) → audio_need_of st ≤ length m.audio → at (audio_frames st t c d (suc j) m).audio spot ≡ given_at st t c d j (audio_frames st t c d j m) l
@@ -79,16 +79,16 @@ module _ (st : State) (t : Env) (same : t.stride ≡ stride_of st) (c : Chunk) w
         (λ (e : j ≡ n). subst (λ (x : ℕ). at (audio_frames st t c d (suc x) m).audio spot ≡ given_at st t c d j (audio_frames st t c d j m) l) e (frame-gives m room))
         (λ (e : j < n).
         let away : c.start + n ≢ c.start + j = λ x. omega arith in
-        row_keeps d (c.start + n) (audio_frames st t c d n m).audio _ there (omega arith) (frames-differ d d (c.start + j) (c.start + n) away)
+        row-keeps d (c.start + n) (audio_frames st t c d n m).audio _ there (omega arith) (frames-differ d d (c.start + j) (c.start + n) away)
         ∙ frames-give m room n e (omega arith))
         (eq-or-lt_of_le (le_of_suc-le-suc h))
 
     -- the frames of another plan
-    others_keep : (e : ℕ) → e < plan_total st.program → e ≢ d → (n : ℕ) → n ≤ c.len → (m : Sounds) → at (audio_frames st t c e n m).audio spot ≡ at m.audio spot
+    others-keep : (e : ℕ) → e < plan_total st.program → e ≢ d → (n : ℕ) → n ≤ c.len → (m : Sounds) → at (audio_frames st t c e n m).audio spot ≡ at m.audio spot
     unfolding audio_frames audio_frame
-    others_keep e a ne zero b m = refl
-    others_keep e a ne (suc n) b m =
-        row_keeps e (c.start + n) (audio_frames st t c e n m).audio _ a (omega arith) (plans-differ e d (c.start + j) (c.start + n) ne) ∙ others_keep e a ne n (omega arith) m
+    others-keep e a ne zero b m = refl
+    others-keep e a ne (suc n) b m =
+        row-keeps e (c.start + n) (audio_frames st t c e n m).audio _ a (omega arith) (plans-differ e d (c.start + j) (c.start + n) ne) ∙ others-keep e a ne n (omega arith) m
 
     -- AFTER ALL AUDIO PLANS, d being number p of them
     plans-give : (p : ℕ) → d ≡ control_total st.program + p → (m : Sounds) → audio_need_of st ≤ length m.audio → (n : ℕ) → p < n → control_total st.program + n ≤ plan_total st.program
@@ -102,7 +102,7 @@ module _ (st : State) (t : Env) (same : t.stride ≡ stride_of st) (c : Chunk) w
         (subst (λ (x : ℕ). at (audio_frames st t c x c.len (audio_plans st t c p m)).audio spot ≡ given_at st t c d j (audio_frames st t c d j (audio_plans st t c p m)) l) is
         (frames-give (audio_plans st t c p m) (omega (arith, plans-long p m)) c.len early (omega arith))))
         (λ (e : p < n).
-        others_keep (control_total st.program + n) (omega arith) (λ x. omega arith) c.len (omega arith) (audio_plans st t c n m)
+        others-keep (control_total st.program + n) (omega arith) (λ x. omega arith) c.len (omega arith) (audio_plans st t c n m)
         ∙ plans-give p is m room n e (omega arith))
         (eq-or-lt_of_le (le_of_suc-le-suc h))
 

@@ -32,9 +32,9 @@ abbrev pub part_spot : Sizes → ℕ → PlanPart → ℕ → ℕ
 part_spot z i q l = start z (of_plan i q) + l
 
 -- a place inside a row is clear of a row apart
-pub clear_of : (z : Sizes) {m : Memory} (p q : Part m) (l : ℕ) → l < width z q → Apart z p q → Clear (start z p) (width z p) (start z q + l)
-clear_of z p q l h (inl e) = inr (omega arith)
-clear_of z p q l h (inr e) = inl (omega arith)
+pub clear-of : (z : Sizes) {m : Memory} (p q : Part m) (l : ℕ) → l < width z q → Apart z p q → Clear (start z p) (width z p) (start z q + l)
+clear-of z p q l h (inl e) = inr (omega arith)
+clear-of z p q l h (inr e) = inl (omega arith)
 
 pub frames-differ : (d i f g : ℕ) → g ≢ f → of_frame d g ≢ of_frame i f
 frames-differ d i f g ne e = ne (cc (e))
@@ -65,7 +65,7 @@ module _ (w : Wiring) (slotted : length w.matrix.slot ≡ slots) (samples : List
       ap (λ (x : Sizes). at v.audio (frame_spot x i f l)) same-sizes
       ∙ block-audio w slotted samples signals from to u is (frame_spot z i f l) (λ fits d g a b s e.
       let other : g ≢ f = λ q. ⊎_elim (λ p. omega arith) (λ p. omega arith) outside in
-      clear_of z (of_frame d g) (of_frame i f) l lane (parts-apart z least (of_frame d g) (of_frame i f) (b, omega arith) (h, k) (frames-differ d i f g other)))
+      clear-of z (of_frame d g) (of_frame i f) l lane (parts-apart z least (of_frame d g) (of_frame i f) (b, omega arith) (h, k) (frames-differ d i f g other)))
 
   -- THE AUDIO ROWS OF A CONTROL PLAN STAY
   pub control-frames : (i f l : ℕ) → i < control_total u.state.program → f < frame_count u.state → l < row_width z i
@@ -74,7 +74,7 @@ module _ (w : Wiring) (slotted : length w.matrix.slot ≡ slots) (samples : List
       ap (λ (x : Sizes). at v.audio (frame_spot x i f l)) same-sizes
       ∙ block-audio w slotted samples signals from to u is (frame_spot z i f l) (λ fits d g a b s e.
       let other : d ≢ i = λ q. omega arith in
-      clear_of z (of_frame d g) (of_frame i f) l lane (parts-apart z least (of_frame d g) (of_frame i f) (b, omega arith) (omega arith, k) (plans-differ d i f g other)))
+      clear-of z (of_frame d g) (of_frame i f) l lane (parts-apart z least (of_frame d g) (of_frame i f) (b, omega arith) (omega arith, k) (plans-differ d i f g other)))
 
   -- THE ROWS OF AN AUDIO PLAN IN THE VALUES STAY
   pub audio-parts : (i : ℕ) (q : PlanPart) (l : ℕ) → control_total u.state.program ≤ i → i < plan_total u.state.program → ValidOfPlan (chunks_most u.state) q → l < row_width z i
@@ -85,8 +85,8 @@ module _ (w : Wiring) (slotted : length w.matrix.slot ≡ slots) (samples : List
       (record {
         plans = λ d r b x.
             let other : d ≢ i = λ e. omega arith in
-            clear_of z (of_plan d r) (of_plan i q) l lane (parts-apart z least (of_plan d r) (of_plan i q) (omega arith, x) (h, valid) (parts-differ d i r q other));
-        routes = λ r p b x. clear_of z (of_route r p) (of_plan i q) l lane (parts-apart z least (of_route r p) (of_plan i q) (b, x) (h, valid) (λ e. true≢false (cc (e))));
+            clear-of z (of_plan d r) (of_plan i q) l lane (parts-apart z least (of_plan d r) (of_plan i q) (omega arith, x) (h, valid) (parts-differ d i r q other));
+        routes = λ r p b x. clear-of z (of_route r p) (of_plan i q) l lane (parts-apart z least (of_route r p) (of_plan i q) (b, x) (h, valid) (λ e. true≢false (cc (e))));
       })
 
   -- NUMBERS BEYOND THE NEEDS STAY

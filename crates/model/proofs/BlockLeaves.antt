@@ -131,23 +131,23 @@ module _ (w : Wiring) (slotted : length w.matrix.slot ≡ slots) (st : State) (i
         (get_or-set_other x.values (a + n) k (draw_of (step x.draw)) nan away ∙ before)
         before
 
-    read_off : (r p : ℕ) → r < route_total st.program → p < 2 → (x : Read) (d : Drawn) → at (draw_read st r p x d).values k ≡ at d.values k
-    read_off r p h b (D.Signal i v) d = refl
-    read_off r p h b (D.Held i v) d = refl
-    read_off r p h b (D.Fed e v) d = refl
-    read_off r p h b D.Constant d = refl
-    read_off r p h b D.RouteRandom d = voices-off r p h b (voice_count st) (omega arith) d
+    read-off : (r p : ℕ) → r < route_total st.program → p < 2 → (x : Read) (d : Drawn) → at (draw_read st r p x d).values k ≡ at d.values k
+    read-off r p h b (D.Signal i v) d = refl
+    read-off r p h b (D.Held i v) d = refl
+    read-off r p h b (D.Fed e v) d = refl
+    read-off r p h b D.Constant d = refl
+    read-off r p h b D.RouteRandom d = voices-off r p h b (voice_count st) (omega arith) d
 
     aux-off : (r : ℕ) → r < route_total st.program → (x : Aux) (d : Drawn) → at (draw_aux st r x d).values k ≡ at d.values k
     aux-off r h X.Missing d = refl
-    aux-off r h (X.With i) d = read_off r 1 h (omega arith) i.read d
+    aux-off r h (X.With i) d = read-off r 1 h (omega arith) i.read d
 
     pub draws-off : (n : ℕ) → n ≤ route_total st.program → (d : Drawn) → at (draw_routes st n d).values k ≡ at d.values k
     unfolding draw_routes
     draws-off zero h d = refl
     draws-off (suc n) h d =
         aux-off n (omega arith) (route_at st n).aux (draw_read st n 0 (route_at st n).source.read (draw_routes st n d))
-        ∙ read_off n 0 (omega arith) (omega arith) (route_at st n).source.read (draw_routes st n d)
+        ∙ read-off n 0 (omega arith) (omega arith) (route_at st n).source.read (draw_routes st n d)
         ∙ draws-off n (omega arith) d
 
   -- ---- audio rows

@@ -45,7 +45,7 @@ use Rattle.model.proofs.Conds.{cond-true, cond-false}
 use Rattle.model.proofs.Compiled.{PlanOf, place_of, plan-of, plan-audio, control-place}
 use Rattle.model.proofs.Frames.{Frame, frame_on, steps-frame, closed-frame}
 use Rattle.model.proofs.ModelRuns.{Good, good-frame, not-true}
-use Rattle.model.proofs.ShownRows.{sizes_at, shown_in, last_in, step_keeps, step-shows}
+use Rattle.model.proofs.ShownRows.{sizes_at, shown_in, last_in, step-keeps, step-shows}
 
 -- ---- sizes stay
 
@@ -106,7 +106,7 @@ module _ (samples : List Float) (signals : Signals) (b : Block) (u : World) (i n
 
   steps-keep : (k : ℕ) → Keeps k z
   unfolding chunk_steps
-  steps-keep k = subst (Keeps k) (sizes-frame (steps-frame samples signals b k u)) (λ there valid lane a ne. step_keeps samples signals i n l (up_to k) k (chunk_of b k) there valid lane a ne)
+  steps-keep k = subst (Keeps k) (sizes-frame (steps-frame samples signals b k u)) (λ there valid lane a ne. step-keeps samples signals i n l (up_to k) k (chunk_of b k) there valid lane a ne)
 
   abbrev Shows : Sizes → Type 0
   Shows x = i < control_total (up_to n).state.program → n < x.chunks → l < row_width x i
@@ -149,9 +149,9 @@ unfolding judged
 first-row true b c e = absurd (omega (arith, e))
 first-row false b c e = refl
 
-no_rows : (a : Bool) → a ≡ false → judged (14 when a ∷ []) ≡ 0
+no-rows : (a : Bool) → a ≡ false → judged (14 when a ∷ []) ≡ 0
 unfolding judged
-no_rows a e = rw e
+no-rows a e = rw e
 
 module _ (w : Wiring) (slotted : length w.matrix.slot ≡ slots) (samples : List Float) (signals : Signals) (b : Block) (len : ℕ) (u : World) (good : Good w u)
     (fits : b.end ≤ frame_count u.state) where
@@ -219,17 +219,17 @@ module _ (w : Wiring) (slotted : length w.matrix.slot ≡ slots) (samples : List
           let inside : plan_place v.state d < plan_total v.state.program = omega (arith, place-v, control-place w slotted v.state v-good.program d control) in
           (lt-ltb (plan_place v.state d) (plan_total v.state.program) inside, ap (λ (k : ℕ). (plan_at v.state k).audio) place-v ∙ plan-audio w slotted v.state v-good.program d used ∙ not-audio)
 
-      is_control : is_control_plan v.state d ≡ true
-      is_control = ap₂ (λ (p q : Bool). p && not q) control-v.0 control-v.1
+      is-control : is_control_plan v.state d ≡ true
+      is-control = ap₂ (λ (p q : Bool). p && not q) control-v.0 control-v.1
 
       is-no-audio : is_audio_plan v.state d ≡ false
       is-no-audio = ap₂ (λ (p q : Bool). p && q) control-v.0 control-v.1
 
-      shape_is : shape_of v.state d ≡ O.Control (lanes_of w x.env d) (chunk_total b)
+      shape-is : shape_of v.state d ≡ O.Control (lanes_of w x.env d) (chunk_total b)
       unfolding put_state with_block
-      shape_is =
+      shape-is =
           cond-false (is_audio_plan v.state d) (O.Audio (width_of v.state d)) (cond (is_control_plan v.state d) (O.Control (width_of v.state d) (chunk_total b)) O.Unmodulated) is-no-audio
-          ∙ cond-true (is_control_plan v.state d) (O.Control (width_of v.state d) (chunk_total b)) O.Unmodulated is_control
+          ∙ cond-true (is_control_plan v.state d) (O.Control (width_of v.state d) (chunk_total b)) O.Unmodulated is-control
           ∙ ap (λ (k : ℕ). O.Control k (chunk_total b)) lanes-v
 
       -- the number of a lane, in the rows that are handed back and after the tick
@@ -251,8 +251,8 @@ module _ (w : Wiring) (slotted : length w.matrix.slot ≡ slots) (samples : List
           let m = v.values in
           let a = to_place v.state d 0 in
           let k = width_of v.state d in
-          let rows = no_rows (values_short v.state m) (le-ltb (length m) (values_of v.state) v-good.room) in
-          let taken = ap₂ (λ (p q : Bool). p && q) (eq-eqb (judged (values_part_rows v.state m)) 0 rows) is_control in
+          let rows = no-rows (values_short v.state m) (le-ltb (length m) (values_of v.state) v-good.room) in
+          let taken = ap₂ (λ (p q : Bool). p && q) (eq-eqb (judged (values_part_rows v.state m)) 0 rows) is-control in
           let narrow : l < k = subst (λ (j : ℕ). l < j) (sym lanes-v) lane in
           let inside : n * k + k ≤ chunk_total b * k = row_inside k there in
           ap (λ (j : ℕ). at (to_part v.state m d).numbers (n * j + l)) (sym lanes-v)
@@ -270,8 +270,8 @@ module _ (w : Wiring) (slotted : length w.matrix.slot ≡ slots) (samples : List
           chunk = chunk_of b n;
           stood = refl;
           there = chunk-there;
-          shape = shape_is;
-          code = λ d. no_rows (values_short v.state v.values) (le-ltb (length v.values) (values_of v.state) v-good.room);
+          shape = shape-is;
+          code = λ d. no-rows (values_short v.state v.values) (le-ltb (length v.values) (values_of v.state) v-good.room);
           numbers = λ d l h k. part-shown d h l k ∙ ap (λ (m : List Float). (values_in y.state m).to d l) (cond-true (chunk_of b n).tick (tick_of y.state x.env x.phase y.values) y.values ticks);
         }
 

@@ -31,8 +31,8 @@ pub record Spares (u v : World) : Type 0 where
 self : (u : World) → Spares u u
 self u = record { bases = refl; tables = refl }
 
-and_then : {u v x : World} → Spares u v → Spares v x → Spares u x
-and_then f g = record { bases = g.bases ∙ f.bases; tables = g.tables ∙ f.tables }
+and-then : {u v x : World} → Spares u v → Spares v x → Spares u x
+and-then f g = record { bases = g.bases ∙ f.bases; tables = g.tables ∙ f.tables }
 
 drawn-spares : (u : World) → Spares u (drawn u)
 unfolding put_values put_state
@@ -59,7 +59,7 @@ steps-spare : (samples : List Float) (signals : Signals) (b : Block) (n : ℕ) (
 unfolding chunk_steps
 steps-spare samples signals b zero u = self u
 steps-spare samples signals b (suc n) u =
-    and_then (steps-spare samples signals b n u) (step-spares samples signals n (chunk_of b n) (chunk_steps samples signals b n u))
+    and-then (steps-spare samples signals b n u) (step-spares samples signals n (chunk_of b n) (chunk_steps samples signals b n u))
 
 routed-spares : (samples : List Float) (signals : Signals) (start end : ℕ) (u : World) → Spares u (routed samples signals start end u)
 unfolding put_state put_globals

@@ -30,7 +30,9 @@ pub mod SaidRoutes
 pub mod SaidSlots
 pub mod SaidFeeds
 pub mod SaidSums
+pub mod SaidSlews
 pub mod SaidTicks
+pub mod SaidRule
 pub mod LentToRead
 pub mod LentFrames
 pub mod Answered

@@ -53,28 +53,28 @@ set-either (z ∷ l) (suc i) zero x y d e p q = refl
 set-either (z ∷ l) (suc i) (suc k) x y d e p q = set-either l i k x y d e p q
 
 -- one with the tables that stand there
-set_same : (l : List Kept) (i k : ℕ) (x d e : Kept) → x.tables ≡ (get_or l i d).tables → e.tables ≡ d.tables → (get_or (set l i x) k e).tables ≡ (get_or l k d).tables
-set_same [] i k x d e p q = q
-set_same (z ∷ l) zero zero x d e p q = p
-set_same (z ∷ l) zero (suc k) x d e p q = default l k
+set-same : (l : List Kept) (i k : ℕ) (x d e : Kept) → x.tables ≡ (get_or l i d).tables → e.tables ≡ d.tables → (get_or (set l i x) k e).tables ≡ (get_or l k d).tables
+set-same [] i k x d e p q = q
+set-same (z ∷ l) zero zero x d e p q = p
+set-same (z ∷ l) zero (suc k) x d e p q = default l k
   where
     default : (l : List Kept) (k : ℕ) → (get_or l k e).tables ≡ (get_or l k d).tables
     default [] k = q
     default (z ∷ l) zero = refl
     default (z ∷ l) (suc k) = default l k
-set_same (z ∷ l) (suc i) zero x d e p q = refl
-set_same (z ∷ l) (suc i) (suc k) x d e p q = set_same l i k x d e p q
+set-same (z ∷ l) (suc i) zero x d e p q = refl
+set-same (z ∷ l) (suc i) (suc k) x d e p q = set-same l i k x d e p q
 
 -- twice
-set_twice : (l : List Kept) (i k : ℕ) (b d : Kept) → get_or (set (set l i b) i b) k d ≡ get_or (set l i b) k d
-set_twice [] i k b d = refl
-set_twice (z ∷ l) zero zero b d = refl
-set_twice (z ∷ l) zero (suc k) b d = refl
-set_twice (z ∷ l) (suc i) zero b d = refl
-set_twice (z ∷ l) (suc i) (suc k) b d = set_twice l i k b d
+set-twice : (l : List Kept) (i k : ℕ) (b d : Kept) → get_or (set (set l i b) i b) k d ≡ get_or (set l i b) k d
+set-twice [] i k b d = refl
+set-twice (z ∷ l) zero zero b d = refl
+set-twice (z ∷ l) zero (suc k) b d = refl
+set-twice (z ∷ l) (suc i) zero b d = refl
+set-twice (z ∷ l) (suc i) (suc k) b d = set-twice l i k b d
 
-less_one : {k j : ℕ} → suc k ≢ suc j → k ≢ j
-less_one ne e = ne (ap suc e)
+less-one : {k j : ℕ} → suc k ≢ suc j → k ≢ j
+less-one ne e = ne (ap suc e)
 
 -- with another set between
 set-around : (l : List Kept) (i j k : ℕ) (b y d : Kept) → k ≢ j → get_or (set (set (set l i b) j y) i b) k d ≡ get_or (set l i b) k d
@@ -82,11 +82,11 @@ set-around [] i j k b y d ne = refl
 set-around (z ∷ l) zero zero zero b y d ne = absurd (ne refl)
 set-around (z ∷ l) zero zero (suc k) b y d ne = refl
 set-around (z ∷ l) zero (suc j) zero b y d ne = refl
-set-around (z ∷ l) zero (suc j) (suc k) b y d ne = get_or-set_other l j k y d (less_one ne)
+set-around (z ∷ l) zero (suc j) (suc k) b y d ne = get_or-set_other l j k y d (less-one ne)
 set-around (z ∷ l) (suc i) zero zero b y d ne = absurd (ne refl)
-set-around (z ∷ l) (suc i) zero (suc k) b y d ne = set_twice l i k b d
+set-around (z ∷ l) (suc i) zero (suc k) b y d ne = set-twice l i k b d
 set-around (z ∷ l) (suc i) (suc j) zero b y d ne = refl
-set-around (z ∷ l) (suc i) (suc j) (suc k) b y d ne = set-around l i j k b y d (less_one ne)
+set-around (z ∷ l) (suc i) (suc j) (suc k) b y d ne = set-around l i j k b y d (less-one ne)
 
 -- ---- calls
 
@@ -106,7 +106,7 @@ module _ (r : Runner) (k : ℕ) where
       let q = exchanged r j (kept_at r j) in
       let Same : Runner → Type 0 = λ x. (kept_at x k).tables ≡ (kept_at r k).tables in
       cond_of Same (eqb (swap_program r.world.state (program_at r j)).code 0) (cond (ltb j (length r.kept)) q r) r
-      (cond_of Same (ltb j (length r.kept)) q r (set_same (returned r) j k (back q) (nothing r) (nothing q) refl refl) refl)
+      (cond_of Same (ltb j (length r.kept)) q r (set-same (returned r) j k (back q) (nothing r) (nothing q) refl refl) refl)
       refl
 
   arrives-tables : (j : ℕ) (values audio tables : List Float) → k ≢ j → (kept_at (effect_of (lend-program j values audio tables) r).left k).tables ≡ (kept_at r k).tables

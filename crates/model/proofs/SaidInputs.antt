@@ -59,7 +59,7 @@ and_both : (a b c : Bool) → a && (b && c) ≡ (a && b) && c
 and_both true b c = refl
 and_both false b c = refl
 
-and-other : (a b c : Bool) → a && (b && c) ≡ b && (a && c)
+pub and-other : (a b c : Bool) → a && (b && c) ≡ b && (a && c)
 and-other true b c = refl
 and-other false true c = refl
 and-other false false c = refl

@@ -52,7 +52,7 @@ free-by : (b : Bool) (up down : Float) → free_slew (cond b (L.Limit up down) L
 free-by true up down = refl
 free-by false up down = refl
 
-free-same : (rate : Float) (c : Curve) → free_slew (slew_for rate c) ≡ not (slews c)
+pub free-same : (rate : Float) (c : Curve) → free_slew (slew_for rate c) ≡ not (slews c)
 unfolding slew_for seconds_of
 free-same rate C.Linear = free-by (slews C.Linear) (rate_per_sample zero32 rate) (rate_per_sample zero32 rate)
 free-same rate (C.Table rise fall) =
@@ -157,7 +157,7 @@ module _ (w : Wiring) (fed : FedAs w) (t : Env) (phase : ℕ) (v : Values) (o : 
 
     -- ---- the term
 
-    input-is : (p l i : ℕ) (g : Slot → Curve)
+    pub input-is : (p l i : ℕ) (g : Slot → Curve)
         → input_in t (seen v to d) n p (snap_of t r.voice l) (laned t.stride (v.own n p) l)
         (laned t.stride (v.own n (2 + p)) l) l
         (input_by w.config.sample_rate (source_at w.sources i) i (fed_from (feeder_of w (B.Held i)))

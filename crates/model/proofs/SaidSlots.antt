@@ -4,6 +4,7 @@ use mathlib.Core.Logic.{◌⊎◌, inl, inr}
 use mathlib.Core.Bool.{Bool, true, false, not, cond, ◌&&◌, ◌||◌}
 use mathlib.Core.List.{List, [], ◌∷◌}
 use Prim.Native.Nat.{ℕ, zero, suc, ◌+◌, ◌<◌}
+use native.Mathlib.Decide.{ℕ_discrete}
 use native.Mathlib.Omega.{arith}
 use borrow.Author.Tests.{eqb-true}
 use lib.Dec.{eqb, ltb}
@@ -74,6 +75,40 @@ any-passing p (suc i) = go (which (p i)) (any-passing p i)
         → any_below p (suc i) ≡ some (passing p (suc i))
     go (inl h) e = rw h (or_some (any_below p i))
     go (inr h) e = rw h (or-none (any_below p i) ∙ e)
+
+-- one that passes has fewer before it than there are
+passing-less : (p : ℕ → Bool) (n k : ℕ) → n < k → p n ≡ true → passing p n < passing p k
+passing-less p n zero h t = absurd (omega arith)
+passing-less p n (suc k) h t = elim (ℕ_discrete n k) [
+  | yes e ↦ let b : p k ≡ true = subst (λ (i : ℕ). p i ≡ true) e t in rw (b, e) (omega arith)
+  | no ne ↦ go (which (p k)) (passing-less p n k (omega (arith, ne)) t)
+]
+  where
+    go : (p k ≡ true) ⊎ (p k ≡ false) → passing p n < passing p k → passing p n < passing p (suc k)
+    go (inl b) e = rw b (omega arith)
+    go (inr b) e = rw b e
+
+-- and the j-th is one of them
+pub record Passes (p : ℕ → Bool) (j k : ℕ) : Type 0 where
+  pub number : ℕ
+  pub below : number < k
+  pub passes : p number ≡ true
+  pub place : passing p number ≡ j
+
+passing-back : (p : ℕ → Bool) (j k : ℕ) → j < passing p k → Passes p j k
+passing-back p j zero h = absurd (omega arith)
+passing-back p j (suc k) h = go (which (p k)) (λ z. passing-back p j k z)
+  where
+    later : Passes p j k → Passes p j (suc k)
+    later q =
+        record { number = q.number; below = omega (arith, q.below); passes = q.passes; place = q.place }
+
+    go : (p k ≡ true) ⊎ (p k ≡ false) → (j < passing p k → Passes p j k) → Passes p j (suc k)
+    go (inl b) before = elim (ℕ_discrete (passing p k) j) [
+      | yes e ↦ record { number = k; below = omega arith; passes = b; place = e }
+      | no ne ↦ let z : j < suc (passing p k) = rw b at h in later (before (omega (arith, z, ne)))
+    ]
+    go (inr b) before = let z : j < passing p k = rw b at h in later (before z)
 
 -- ---- a slot's candidate
 
@@ -224,6 +259,10 @@ module _ (w : Wiring) (d : ℕ) where
     unfolding sends slots_into candidates verdicts
     sent-all = ap (passing (passes w.matrix.slot)) (sym slotted) ∙ sym (into-length 0 w.matrix.slot)
 
+    -- each of them sends
+    pub sent-back : (i : ℕ) → i < length (slots_into w d) → Passes (λ n. sends w n d) i slots
+    sent-back i h = passing-back (λ n. sends w n d) i slots (subst (λ (z : ℕ). i < z) (sym sent-all) h)
+
     -- A DESTINATION IN USE
     pub used-same : is_used w d ≡ named (candidates w) d
     unfolding is_used slots_into
@@ -238,6 +277,9 @@ module _ (w : Wiring) (d : ℕ) where
           let e : 0 + n ≡ n = omega arith in
           into-at 0 w.matrix.slot n no_candidate (omega (arith, slotted)) t
           ∙ ap (λ (m : ℕ). candidate_of d m (slot_n w n)) e
+
+      pub sent-in : sent n < length (slots_into w d)
+      sent-in = subst (λ (z : ℕ). sent n < z) sent-all (passing-less (λ k. sends w k d) n slots h t)
 
       pub sent-slot : (slot_into w d (sent n)).slot ≡ n
       sent-slot = ap (λ (c : Candidate). c.slot) sent-at

@@ -47,7 +47,7 @@ added-same : {b b' : Bool} {a a' u u' : Float} → b ≡ b' → a ≡ a' → u �
     → cond b (plus a u) a ≡ cond b' (plus a' u') a'
 added-same p q r = rw (p, q, r)
 
-cond_same : {b b' : Bool} {a a' u u' : Float} → b ≡ b' → a ≡ a' → u ≡ u' → cond b a u ≡ cond b' a' u'
+pub cond_same : {b b' : Bool} {a a' u u' : Float} → b ≡ b' → a ≡ a' → u ≡ u' → cond b a u ≡ cond b' a' u'
 cond_same p q r = rw (p, q, r)
 
 unless : (b : Bool) (a u : Float) → cond (not b) u a ≡ cond b a u
@@ -59,7 +59,7 @@ or-none true = refl
 or-none false = refl
 
 -- the lanes of a destination are lanes of the stride
-lanes-in : (s : ℕ) → 0 < s → (b : Bool) (l : ℕ) → l < plan_width s b → l < s
+pub lanes-in : (s : ℕ) → 0 < s → (b : Bool) (l : ℕ) → l < plan_width s b → l < s
 lanes-in s h true l k = k
 lanes-in s h false l k = omega arith
 

@@ -68,12 +68,12 @@ claimed-said x says c free =
 
 -- ---- the ticks of a list of calls
 
-each_two : (P Q R : Moment → Type 0) → ((x : Moment) → P x → Q x → R x) → (xs : List Moment) → Each P xs → Each Q xs
+pub each_two : (P Q R : Moment → Type 0) → ((x : Moment) → P x → Q x → R x) → (xs : List Moment) → Each P xs → Each Q xs
     → Each R xs
 each_two P Q R h [] p q = tt
 each_two P Q R h (x ∷ xs) p q = (h x p.0 q.0, each_two P Q R h xs p.1 q.1)
 
-and_same : (b : Bool) → b && b ≡ b
+pub and_same : (b : Bool) → b && b ≡ b
 and_same true = refl
 and_same false = refl
 

@@ -96,12 +96,12 @@ module _ (ss : Sources) (ds : Destinations) (c : Config) (ps : List Compiled) (r
   unfolding put_bases put_globals put_held put_state
   new-bases = b.lent_after.1.1 ∙ ap (λ (w : World). w.bases) made ∙ zeroed-is _ _
 
-  given_by : (ps : List Compiled) (ks : List Kept) → AllKept ps ks → (k : ℕ) → (get_or ks k (no_kept c)).program ≡ compiled (get_or (map (λ p. p.wiring) ps) k (nothing_wired c))
-  given_by [] [] a k = sym (empty-is-compiled _ _ c)
-  given_by [] (x ∷ ks) a k = absurd a
-  given_by (p ∷ ps) [] a k = absurd a
-  given_by (p ∷ ps) (x ∷ ks) a zero = compile-keeps p x a.0
-  given_by (p ∷ ps) (x ∷ ks) a (suc k) = given_by ps ks a.1 k
+  given-by : (ps : List Compiled) (ks : List Kept) → AllKept ps ks → (k : ℕ) → (get_or ks k (no_kept c)).program ≡ compiled (get_or (map (λ p. p.wiring) ps) k (nothing_wired c))
+  given-by [] [] a k = sym (empty-is-compiled _ _ c)
+  given-by [] (x ∷ ks) a k = absurd a
+  given-by (p ∷ ps) [] a k = absurd a
+  given-by (p ∷ ps) (x ∷ ks) a zero = compile-keeps p x a.0
+  given-by (p ∷ ps) (x ∷ ks) a (suc k) = given-by ps ks a.1 k
 
   config-is : r.world.state.config ≡ c
   unfolding fresh_state
@@ -116,7 +116,7 @@ module _ (ss : Sources) (ds : Destinations) (c : Config) (ps : List Compiled) (r
   others-are (suc k) ne =
       other-kept r (suc k) ne
       ∙ ap₂ (λ (l : List Kept) (x : Config). (get_or l (suc k) (no_kept x)).program) b.kept config-is
-      ∙ given_by ps b.rest b.programs k
+      ∙ given-by ps b.rest b.programs k
 
   names-slotted : Slotted ps → (k : ℕ) → length (names_of c ps k).matrix.slot ≡ slots
   names-slotted s zero = new-slots

@@ -164,9 +164,9 @@ module _ (st : State) (i n l : ℕ) (there : i < plan_total st.program) (valid :
   rows-length j zero m = refl
   rows-length j (suc k) m = simp (fill-length, rows-length j k m)
 
-  row_shows : (m : List Float) → values_of st ≤ length m → (k : ℕ) → k ≡ i → at (rows_of_chunk st n (suc k) m) shown ≡ at m last
+  row-shows : (m : List Float) → values_of st ≤ length m → (k : ℕ) → k ≡ i → at (rows_of_chunk st n (suc k) m) shown ≡ at m last
   unfolding rows_of_chunk
-  row_shows m room k e =
+  row-shows m room k e =
       let inside = parts-inside (sizes_at st) (stride-least (voice_count st)) (of_plan i (to_at n)) (there, valid) in
       let m0 = rows_of_chunk st n i m in
       let m1 = fill_from m0 (chunk_from (stride_of st) (chunks_most st) i (row_width (sizes_at st) i) n) (lanes_from m0 (plan_from (stride_of st) (chunks_most st) i)) (row_width (sizes_at st) i) in
@@ -181,7 +181,7 @@ module _ (st : State) (i n l : ℕ) (there : i < plan_total st.program) (valid :
   rows-show : (m : List Float) → values_of st ≤ length m → (k : ℕ) → i < k → k ≤ plan_total st.program → at (rows_of_chunk st n k m) shown ≡ at m last
   unfolding rows_of_chunk
   rows-show m room zero h b = absurd (omega arith)
-  rows-show m room (suc k) h b = ⊎_elim (λ (e : i ≡ k). row_shows m room k (sym e)) (λ (e : i < k). later e (rows-show m room k e (omega arith))) (eq-or-lt_of_le (le_of_suc-le-suc h))
+  rows-show m room (suc k) h b = ⊎_elim (λ (e : i ≡ k). row-shows m room k (sym e)) (λ (e : i < k). later e (rows-show m room k e (omega arith))) (eq-or-lt_of_le (le_of_suc-le-suc h))
     where
       later : i < k → at (rows_of_chunk st n k m) shown ≡ at m last → at (rows_of_chunk st n (suc k) m) shown ≡ at m last
       later e x =
@@ -212,10 +212,10 @@ module _ (samples : List Float) (signals : Signals) (i n l : ℕ) where
       ∙ rows-show u.state i n l there valid lane u.values room (control_total u.state.program) h (control-most u.state)
 
   -- THE STEP OF ANOTHER CHUNK LEAVES THE ROW
-  pub step_keeps : (u : World) (j : ℕ) (c : Chunk) → i < plan_total u.state.program → n < chunks_most u.state → l < row_width (sizes_at u.state) i
+  pub step-keeps : (u : World) (j : ℕ) (c : Chunk) → i < plan_total u.state.program → n < chunks_most u.state → l < row_width (sizes_at u.state) i
       → j < chunks_most u.state → j ≢ n → at (chunk_step samples signals j c u).values (shown_in (sizes_at u.state) i n l) ≡ at u.values (shown_in (sizes_at u.state) i n l)
   unfolding chunk_step tick_of plan_at with_primed put_state put_values
-  step_keeps u j c there valid lane b ne =
+  step-keeps u j c there valid lane b ne =
       let t = env_of u samples signals c (snap_at j u) in
       let m = tick_of u.state t c.phase u.values in
       cond_of (λ (y : World). at (after_tick samples signals j c (snap_at j u) y).values (shown_in (sizes_at u.state) i n l) ≡ at u.values (shown_in (sizes_at u.state) i n l))

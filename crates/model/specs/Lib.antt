@@ -29,6 +29,8 @@ pub mod Model
 pub mod Claim
 pub mod Said
 pub mod Instants
+pub mod SaidAfter
+pub mod SaidRule
 pub mod Promises
 pub mod Answered
 pub mod Sessions
