@@ -209,6 +209,21 @@ fn replay_list(
     t
 }
 
+// the same on arrays
+fn replay_on(
+    file: &mut File,
+    input: &mut [u8; 65536],
+    stdout: Stdout,
+    out: &mut [u8; 131072],
+    book: &mut [usize; trace_dispatch::BOOK],
+    desk: &mut [f32; trace_dispatch::DESK],
+    values: &mut [f32; trace_dispatch::VALUES],
+    audio: &mut [f32; 450000],
+    pool: &mut [f32; 600000],
+) -> Tally {
+    replay_list(file, input, stdout, out, book, desk, values, audio, pool)
+}
+
 // the same, with memories of its own
 fn replay_open(stdout: Stdout, file: &mut File) -> Tally {
     let mut input = [0u8; 65536];
@@ -218,7 +233,7 @@ fn replay_open(stdout: Stdout, file: &mut File) -> Tally {
     let mut values = [0.0f32; trace_dispatch::VALUES];
     let mut audio = [0.0f32; 450000];
     let mut pool = [0.0f32; 600000];
-    replay_list(
+    replay_on(
         file,
         &mut input,
         stdout,
