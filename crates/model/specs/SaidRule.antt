@@ -1,7 +1,6 @@
--- THE RULE, SAID: the rule of a control tick
-    (Rule.antt) in which no route stands either. Numbers, ramps and slews after
--- the tick are what is said of them (Said.antt, SaidAfter.antt), given the engine, the lent memories and the chunk
--- (Instants.antt). Definitions only; proofs/SaidRule.antt proves that it is the rule.
+-- THE RULE, SAID: the rule of a control tick (Rule.antt) in which no route stands either. Numbers, ramps and slews
+-- after the tick are what is said of them (Said.antt, SaidAfter.antt), given the engine, the lent memories and the
+-- chunk (Instants.antt). Definitions only; proofs/SaidRule.antt proves that it is the rule.
 use Rattle.std.specs.Prelude.{◌≡◌, true, ℕ, ◌<◌}
 use Rattle.config.specs.Sizes.{slots}
 use Rattle.feed.specs.Numbers.{In}
