@@ -2,7 +2,7 @@
 // as xorshift64* in C gives them. Prints, for each list, how many lines it has and how many of them differ.
 #![tactic(auto)]
 
-ghost use Rattle.std.specs.Prelude.{◌≡◌, ◌*◌, ◌≤◌, length};
+ghost use Rattle.std.specs.Prelude.{◌≡◌, ◌*◌, ◌≤◌, length, take};
 ghost use Rattle.curve_table.specs.Table.{points};
 
 mod lines;
@@ -27,7 +27,7 @@ fn tell(rt: HostRuntime, path: &str, error: io::Error) {
 
 // the bytes of a file that fit the buffer; none where it cannot be read
 fn load(rt: HostRuntime, path: &str, buf: &mut [u8]) -> usize
-    ensures { result ≤ length buf.new }
+    ensures { (result ≤ length buf.new) × (result ≡ length (take result buf.new)) }
 {
     match fs::open(&rt, path) {
         Ok(mut file) => streams::read(&mut file, buf),
