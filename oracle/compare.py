@@ -17,8 +17,8 @@ The Rust's own buffer offsets (PLAN at, out; ROUTE curve, slew, fed and rnd offs
 PROGRAM luts, slew, random), its clock, its count of gliding values and its note counters are
 left out of the comparison, and so are `state` and `memory` lines, unless PROGRAM prints
 them. One generated session in eight has a line that is not of the grammar, at which both must end with
-the same line `ERROR line N: ..`. A session for which PROGRAM prints a line that begins `TOO LARGE` (it has
-no heap, and says how much memory it has) is compared up to that line, and counted apart. PROGRAM's last
+the same line `ERROR line N: ..`. A session for which PROGRAM prints a line that begins `TOO LARGE` (its
+memories have fixed sizes, and it says which) is compared up to that line, and counted apart. PROGRAM's last
 line must be `END n lines`, n being the lines before it.
 
 --clean            sessions without refused calls
