@@ -150,10 +150,10 @@ def expected(answer):
     def inputs(w):
         slew = w[5]
         if slew == "-":
-            limit = "L.Free"
+            limit = "None"
         else:
             _, up, down = slew.split(":")
-            limit = "L.Limit %s %s" % (number(up), number(down))
+            limit = "Some (record { up = %s; down = %s })" % (number(up), number(down))
         return ("record { read = %s; bipolar = %s; table = %s; slew = %s }"
                 % (read(w[0]), "true" if w[1] == "b" else "false", "false" if w[3] == "-" else "true", limit))
 
@@ -166,7 +166,7 @@ def expected(answer):
         aux = w[at["aux"] + 1:]
         routes.append("record { slot = %s; source = %s; aux = %s; aux_invert = %s; bipolar = %s; amount = %s; output = %s; voice = %s; "
                       "scale = %s; offset = %s; simple = %s }"
-                      % (w[at["slot"] + 1], inputs(src), "X.Missing" if aux == ["-"] else "X.With (%s)" % inputs(aux),
+                      % (w[at["slot"] + 1], inputs(src), "None" if aux == ["-"] else "Some (%s)" % inputs(aux),
                          BOOL[w[at["inv"] + 1]], "true" if w[at["pol"] + 1] == "b" else "false", gain(w[at["amt"] + 1]),
                          gain(w[at["amt"] + 3]), voice(w[at["scope"] + 1]), number(w[at["affine"] + 1]),
                          number(w[at["affine"] + 2]), BOOL[w[at["simple"] + 1]]))

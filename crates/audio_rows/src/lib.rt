@@ -59,10 +59,8 @@ pub fn old_row(audio: &[f32], start: usize, n: usize) -> [f32; VOICES]
     ensures { IsRow n (lanes_from audio.now start) result }
 {
     let mut out = [0.0; VOICES];
-    let mut l = 0usize;
-    while l < n {
+    for l in 0..n {
         out[l] = lane_input::lane_from(audio, start, l);
-        l += 1;
     }
     out
 }
@@ -98,11 +96,7 @@ fn whole_plain(job: Job) -> bool
     ensures { (t : Env) (x : Mix) → IsJob t x job → result ≡ whole_plain t x }
 {
     let all = plan_sum::totals_of(job);
-    let some = all.some;
-    if !some {
-        return false;
-    }
-    all.all
+    all.some && all.all
 }
 
 // x held to the bounds; where every route is plain, only in the active span
@@ -130,11 +124,9 @@ fn hold_lanes(job: Job, whole: bool, row: [f32; VOICES]) -> [f32; VOICES]
 {
     let n = plan_sum::lane_count(job);
     let mut out = row;
-    let mut l = 0usize;
-    while l < n {
+    for l in 0..n {
         let a = out[l];
         out[l] = hold_lane(job, whole, l, a);
-        l += 1;
     }
     out
 }
@@ -194,10 +186,7 @@ pub fn frame(
 fn snaps(snap: bool, n: usize) -> bool
     ensures { result ≡ (snap && eqb n 0) }
 {
-    if !snap {
-        return false;
-    }
-    n == 0
+    snap && n == 0
 }
 
 // The job at frame n of a chunk.
@@ -248,14 +237,12 @@ pub fn frames(
 {
     let width = plan_sum::lane_count(job);
     let len = chunk.len;
-    let mut n = 0usize;
-    while n < len {
+    for n in 0..len {
         let here = job_at(job, chunk, n);
         let start = row_at(width, n);
         frame(
             values, audio, new, here, start, held, globals, bases, tables, samples,
         );
-        n += 1;
     }
 }
 
@@ -418,8 +405,7 @@ pub fn sweep_plans(
     requires { Ready field chunk (control + count) (length audio.old) samples.now starts.now steps.now gains.now offsets.now × (from ≤ count) }
     ensures { (from ≤ result) × (result ≤ count) × ((st : State) (w : Work) (h b v : List Float) (m : Sounds) → Installed st w → Prepared w chunk field plans control levels samples.now starts.now steps.now gains.now offsets.now → sounds v audio.old ≡ audio_plans st (work_env w h globals.now bases.now b samples.now) chunk from m → sounds v audio.new ≡ audio_plans st (work_env w h globals.now bases.now b samples.now) chunk result m) }
 {
-    let mut k = from;
-    while k < count {
+    for k in from..count {
         let d = control + k;
         let plan = plans[d];
         if !plan_sweep::is_swept(field, plan, steps) {
@@ -428,9 +414,8 @@ pub fn sweep_plans(
         let pass = pass_of(field, plan, levels, globals, bases, offsets);
         let a = audio_at(field.stride, field.frames, d, field.stride, chunk.start);
         sweep_plan(audio, pass, a, chunk, starts, steps, gains, samples);
-        k += 1;
     }
-    k
+    count
 }
 
 // What the plans of a chunk that have audio are swept by, besides the lent numbers: the field, the plans, of which the first `control` have no audio and `count` have,
@@ -522,14 +507,12 @@ fn each_swept(
     requires { (length steps.now ≡ slots) × (control + count ≤ slots) }
     ensures { result ≡ true → (k : ℕ) → k < count → Swept field (get_or plans (control + k) no_plan) steps.now }
 {
-    let mut k = 0usize;
-    while k < count {
+    for k in 0..count {
         let d = control + k;
         let plan = plans[d];
         if !plan_sweep::is_swept(field, plan, steps) {
             return false;
         }
-        k += 1;
     }
     true
 }
@@ -574,14 +557,12 @@ fn sweep_each(
     requires { Ready field chunk (control + count) (length audio.old) samples.now starts.now steps.now gains.now offsets.now × ((k : ℕ) → k < count → Swept field (get_or plans (control + k) no_plan) steps.now) }
     ensures { (st : State) (w : Work) (h b v : List Float) → Installed st w → Prepared w chunk field plans control levels samples.now starts.now steps.now gains.now offsets.now → sounds v audio.new ≡ audio_plans st (work_env w h globals.now bases.now b samples.now) chunk count (sounds v audio.old) }
 {
-    let mut k = 0usize;
-    while k < count {
+    for k in 0..count {
         let d = control + k;
         let plan = plans[d];
         let pass = pass_of(field, plan, levels, globals, bases, offsets);
         let a = audio_at(field.stride, field.frames, d, field.stride, chunk.start);
         sweep_plan(audio, pass, a, chunk, starts, steps, gains, samples);
-        k += 1;
     }
 }
 
@@ -641,6 +622,7 @@ fn plans_from(
     let control = work.control;
     let count = sweeping.count;
     let mut k = 0usize;
+    // Not a for: a turn sweeps as many plans as it can, so k moves on by more than one.
     while k < count {
         let m = sweep_from(audio, sweeping, chunk, k, globals, bases, samples);
         if count <= m {

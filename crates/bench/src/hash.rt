@@ -1,8 +1,8 @@
 // The hash of an engine's outputs: FNV-1a of 64 bits over the bits of each number, least significant byte first.
 // Destinations come in order; of one at audio rate every frame, of one at control rate the end of every chunk; of each
 // of these every voice, or the one number of a global destination.
-use engine::Engine;
-use state::Output;
+use engine::{Engine, Output};
+use refusal::Refusal;
 
 // the hash after a byte
 fn after_byte(h: u64, b: u64) -> u64 {
@@ -37,10 +37,8 @@ fn after_lane(h: u64, x: f32, lane: usize, voices: usize) -> u64 {
 // the hash after rows
 fn after_rows(start: u64, rows: &[f32], width: usize, voices: usize) -> u64 {
     let mut h = start;
-    let mut i = 0usize;
-    while i < rows.len() {
+    for i in 0..rows.len() {
         h = after_lane(h, rows[i], lane(i, width), voices);
-        i += 1;
     }
     h
 }
@@ -50,27 +48,35 @@ fn width_of(output: Output) -> usize {
     match output {
         Output::Audio { width } => width,
         Output::Control { width, chunks: _ } => width,
-        Output::Refused(_) => 0,
         Output::Unmodulated => 0,
+    }
+}
+
+// the hash after the rows of a part, if there are any
+fn after_part(h: u64, part: Result<&[f32], Refusal>, width: usize, voices: usize) -> u64 {
+    match part {
+        Ok(rows) => after_rows(h, rows, width, voices),
+        Err(_) => h,
     }
 }
 
 // the hash after a destination: it has rows at one of the two rates
 fn after_dest(h: u64, e: Engine, d: usize, voices: usize, values: &[f32], audio: &[f32]) -> u64 {
-    let output = e.output(values, audio, d);
-    let width = width_of(output);
-    let mut code = 0u8;
-    let a = after_rows(h, e.audio_part(audio, d, &mut code), width, voices);
-    after_rows(a, e.to_part(values, d, &mut code), width, voices)
+    let width = match e.output(values, audio, d) {
+        Ok(output) => width_of(output),
+        Err(_) => 0,
+    };
+    let sound = e.audio_part(audio, d);
+    let a = after_part(h, sound, width, voices);
+    let ends = e.to_part(values, d);
+    after_part(a, ends, width, voices)
 }
 
 // the hash of every destination
 fn of_all(e: Engine, dests: usize, voices: usize, values: &[f32], audio: &[f32]) -> u64 {
     let mut h = 14695981039346656037u64;
-    let mut d = 0usize;
-    while d < dests {
+    for d in 0..dests {
         h = after_dest(h, e, d, voices, values, audio);
-        d += 1;
     }
     h
 }

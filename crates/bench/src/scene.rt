@@ -1,10 +1,10 @@
 // What a scenario is made of, by rules: sources, destinations, a matrix and signals.
 use config::{Config, DESTINATIONS, FRAMES, SLOTS, SOURCES, VOICES};
 use curve_table::Curve;
-use matrix::Edited;
+use refusal::Refusal;
 use state::{
-    Aim, Bound, Destinations, Feed, Kind, Matrix, Pick, Polarity, Range, Rate, Scope, Slot,
-    Sources, Target, Wiring,
+    Destinations, Feed, Kind, Matrix, Polarity, Range, Rate, Scope, Signals, Slot, Sources, Target,
+    Wiring,
 };
 
 // the signals of a scenario, as many as the benchmark of the Rust has
@@ -44,6 +44,7 @@ const GLOBAL: usize = 4;
 const PRESET: usize = 5;
 
 // What a scenario's program is compiled of, and the first refusal.
+// No Result: a benchmark goes on with what it has.
 #[derive(Clone, Copy)]
 pub struct Gathered {
     pub code: u8,
@@ -51,6 +52,7 @@ pub struct Gathered {
 }
 
 // A registry of sources, and the first refusal.
+// No Result: a benchmark goes on with what it has.
 #[derive(Clone, Copy)]
 struct Named {
     code: u8,
@@ -58,6 +60,7 @@ struct Named {
 }
 
 // A registry of destinations, and the first refusal.
+// No Result: a benchmark goes on with what it has.
 #[derive(Clone, Copy)]
 struct Reached {
     code: u8,
@@ -184,28 +187,33 @@ fn range_of(i: usize, s: Scene) -> Range {
 
 fn with_source(from: Sources, i: usize, s: Scene) -> Named {
     let key = [(i % SOURCES) as u8];
-    let a = source::add(
+    let added = source::add(
         from,
         &key,
         kind_of(i, s),
         source_scope(i, s),
         range_of(i, s),
     );
-    let code = a.code;
-    let sources = a.sources;
-    Named { code, sources }
+    match added {
+        Err(refusal) => Named {
+            code: refusal.number(),
+            sources: from,
+        },
+        Ok(added) => {
+            let sources = added.sources;
+            Named { code: 0, sources }
+        }
+    }
 }
 
 fn sources_of(s: Scene) -> Named {
     let mut sources = source::new();
     let mut code = 0u8;
-    let mut i = 0usize;
-    while i < SIGNALS {
+    for i in 0..SIGNALS {
         let a = with_source(sources, i, s);
         code = first(code, a.code);
         let next = a.sources;
         sources = next;
-        i += 1;
     }
     Named { code, sources }
 }
@@ -266,7 +274,7 @@ fn feed_of(d: usize, s: Scene) -> Feed {
 
 fn with_dest(from: Destinations, d: usize, s: Scene) -> Reached {
     let target = Target::Param((d % DESTINATIONS) as u32);
-    let a = dest::add(
+    let added = dest::add(
         from,
         target,
         dest_scope(d, s),
@@ -275,22 +283,27 @@ fn with_dest(from: Destinations, d: usize, s: Scene) -> Reached {
         1.0,
         feed_of(d, s),
     );
-    let code = a.code;
-    let dests = a.dests;
-    Reached { code, dests }
+    match added {
+        Err(refusal) => Reached {
+            code: refusal.number(),
+            dests: from,
+        },
+        Ok(added) => {
+            let dests = added.dests;
+            Reached { code: 0, dests }
+        }
+    }
 }
 
 fn dests_of(s: Scene) -> Reached {
     let n = s.dests;
     let mut dests = dest::new();
     let mut code = 0u8;
-    let mut d = 0usize;
-    while d < n {
+    for d in 0..n {
         let a = with_dest(dests, d, s);
         code = first(code, a.code);
         let next = a.dests;
         dests = next;
-        d += 1;
     }
     Reached { code, dests }
 }
@@ -313,15 +326,15 @@ fn target_of(n: usize, dests: usize) -> Target {
 
 fn plain_slot(n: usize, dests: usize) -> Slot {
     let amount = (number::nearest_u64_to_f32(n as u64) - 31.5) / 64.0;
-    let destination = Aim::At(target_of(n, dests));
+    let destination = Some(target_of(n, dests));
     let polarity = polarity_of(n);
     Slot {
-        source: Pick::Source(n),
+        source: Some(n),
         source_curve: Curve::Linear,
         amount,
         polarity,
         destination,
-        aux: Pick::Nothing,
+        aux: None,
         aux_invert: false,
         aux_curve: Curve::Linear,
         output: 1.0,
@@ -333,18 +346,18 @@ fn plain_slot(n: usize, dests: usize) -> Slot {
 fn rich_slot(n: usize, dests: usize) -> Slot {
     let x = number::nearest_u64_to_f32(n as u64);
     let amount = (x - 31.5) / 64.0;
-    let destination = Aim::At(target_of(n, dests));
+    let destination = Some(target_of(n, dests));
     let polarity = polarity_of(n);
     let rise = 0.001 + x / 6400.0;
     let output = 0.5 + x / 128.0;
     let aux = (n % SIGNALS + 7) % SIGNALS;
     Slot {
-        source: Pick::Source(n),
+        source: Some(n),
         source_curve: Curve::Table { rise, fall: 0.01 },
         amount,
         polarity,
         destination,
-        aux: Pick::Source(aux),
+        aux: Some(aux),
         aux_invert: n % 3 == 0,
         aux_curve: Curve::Table {
             rise: 0.02,
@@ -364,11 +377,11 @@ const PRESET_SOURCE: [usize; PRESET_SLOTS] = [0, 1, 6, 7, 5, 8, 9, 2, 3, 0, 10, 
 const PRESET_DEST: [usize; PRESET_SLOTS] = [0, 1, 2, 1, 3, 4, 5, 6, 1, 8, 9, 7];
 
 // which slots have an aux: 0 that of the wheel, 7 and 9 that of velocity
-fn preset_aux(n: usize) -> Pick {
+fn preset_aux(n: usize) -> Option<usize> {
     match n {
-        0 => Pick::Source(4),
-        7 | 9 => Pick::Source(6),
-        _ => Pick::Nothing,
+        0 => Some(4),
+        7 | 9 => Some(6),
+        _ => None,
     }
 }
 
@@ -391,11 +404,11 @@ fn preset_slot(n: usize) -> Slot {
     let i = n % PRESET_SLOTS;
     let plain = plain_slot(i, SLOTS);
     let d = PRESET_DEST[i];
-    let destination = Aim::At(target_of(d, SLOTS));
+    let destination = Some(target_of(d, SLOTS));
     let polarity = polarity_of(i);
     let source_curve = preset_curve(i);
     Slot {
-        source: Pick::Source(PRESET_SOURCE[i]),
+        source: Some(PRESET_SOURCE[i]),
         source_curve,
         amount: plain.amount,
         polarity,
@@ -426,19 +439,13 @@ fn slot_of(n: usize, s: Scene) -> Slot {
     plain_slot(n, s.dests)
 }
 
-fn matrix_of(s: Scene) -> Edited {
+fn matrix_of(s: Scene) -> Result<Matrix, Refusal> {
     let slots = s.slots;
     let mut m = matrix::new();
-    let mut code = 0u8;
-    let mut n = 0usize;
-    while n < slots {
-        let e = matrix::set_slot(m, n, slot_of(n, s));
-        code = first(code, e.code);
-        let next = e.matrix;
-        m = next;
-        n += 1;
+    for n in 0..slots {
+        m = matrix::set_slot(m, n, slot_of(n, s))?;
     }
-    Edited { code, matrix: m }
+    Ok(m)
 }
 
 // whether note values glide, and a legato note sets its velocity
@@ -450,9 +457,11 @@ fn with_glides(m: Matrix, on: bool) -> Matrix {
 pub fn gather(s: Scene) -> Gathered {
     let n = sources_of(s);
     let d = dests_of(s);
-    let m = matrix_of(s);
-    let code = first(n.code, first(d.code, m.code));
-    let slots = m.matrix;
+    let (number, slots) = match matrix_of(s) {
+        Ok(matrix) => (0, matrix),
+        Err(refusal) => (refusal.number(), matrix::new()),
+    };
+    let code = first(n.code, first(d.code, number));
     let matrix = with_glides(slots, s.also == GLIDES);
     let sources = n.sources;
     let dests = d.dests;
@@ -489,6 +498,14 @@ fn width_of(i: usize, s: Scene) -> usize {
     s.voices
 }
 
+// Signals, and the number of the first call that was refused, or 0.
+// No Result: a benchmark goes on with what it has.
+#[derive(Clone, Copy)]
+pub struct Bound {
+    pub code: u8,
+    pub signals: Signals,
+}
+
 // The scenario's signals.
 pub fn signals_of(s: Scene) -> Bound {
     let voices = s.voices;
@@ -496,13 +513,11 @@ pub fn signals_of(s: Scene) -> Bound {
     let len = product(s.frames, voices);
     let mut bound = engine::no_signals();
     let mut code = 0u8;
-    let mut i = 0usize;
-    while i < SIGNALS {
-        let b = engine::bind(bound, i, buffer_at(i, buffers, len), len, width_of(i, s));
-        code = first(code, b.code);
-        let next = b.signals;
-        bound = next;
-        i += 1;
+    for i in 0..SIGNALS {
+        match engine::bind(bound, i, buffer_at(i, buffers, len), len, width_of(i, s)) {
+            Ok(next) => bound = next,
+            Err(r) => code = first(code, r.number()),
+        }
     }
     Bound {
         code,

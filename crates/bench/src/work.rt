@@ -2,8 +2,9 @@
 use crate::scene::{GLIDES, Gathered, NOTES, SIGNALS, Scene, first};
 use crate::{hash, scene};
 use config::VOICES;
-use engine::{Done, Engine, Made, NoteOn};
-use state::{Compiled, Signals, Wiring};
+use engine::{Engine, NoteOn};
+use refusal::Refusal;
+use state::{Program, Signals, Wiring};
 
 // the program, on memories of its own
 fn compiled(
@@ -12,7 +13,7 @@ fn compiled(
     audio: &mut [f32],
     tables: &mut [f32],
     curves: &[f32],
-) -> Compiled {
+) -> Result<Program, Refusal> {
     let matrix = w.matrix;
     let sources = w.sources;
     let dests = w.dests;
@@ -21,29 +22,64 @@ fn compiled(
     )
 }
 
+// An engine after calls, and the number of the first that was refused, or 0.
+// No Result: a benchmark goes on with what it has.
+#[derive(Clone, Copy)]
+pub struct Done {
+    pub engine: Engine,
+    pub code: u8,
+}
+
+// after one more call
+fn after(from: Done, answer: Result<Engine, Refusal>) -> Done {
+    match answer {
+        Ok(engine) => Done {
+            engine,
+            code: from.code,
+        },
+        Err(r) => Done {
+            engine: from.engine,
+            code: first(from.code, r.number()),
+        },
+    }
+}
+
 // a new engine, on memories of its own
-fn made(w: Wiring, held: &mut [f32], globals: &mut [f32], bases: &mut [f32]) -> Made {
+fn made(w: Wiring, held: &mut [f32], globals: &mut [f32], bases: &mut [f32]) -> Done {
     let sources = w.sources;
     let dests = w.dests;
-    Engine::new(sources, dests, w.config, held, globals, bases)
+    let before = Done {
+        engine: Engine::bare(),
+        code: 0,
+    };
+    after(
+        before,
+        Engine::new(sources, dests, w.config, held, globals, bases),
+    )
 }
 
 // the engine with the program; the first refusal
-fn swapped(code: u8, m: Made, c: Compiled) -> Done {
-    let e = m.engine;
-    let p = c.program;
-    let r = e.swap(p);
-    let engine = r.engine;
-    Done {
-        code: first(first(code, c.code), first(m.code, r.code)),
-        engine,
+fn swapped(code: u8, m: Done, c: Result<Program, Refusal>) -> Done {
+    let engine = m.engine;
+    match c {
+        Ok(p) => {
+            let before = Done {
+                engine,
+                code: first(code, m.code),
+            };
+            after(before, engine.swap(p).map(|s| s.engine))
+        }
+        Err(refusal) => Done {
+            engine,
+            code: first(code, refusal.number()),
+        },
     }
 }
 
 // a new engine with the program, its bases set
 fn wired(
     g: Gathered,
-    c: Compiled,
+    c: Result<Program, Refusal>,
     calls: usize,
     held: &mut [f32],
     globals: &mut [f32],
@@ -81,7 +117,7 @@ fn sounding(from: Done, s: Scene, held: &mut [f32], tables: &[f32]) -> Done {
 fn started(
     s: Scene,
     g: Gathered,
-    c: Compiled,
+    c: Result<Program, Refusal>,
     held: &mut [f32],
     globals: &mut [f32],
     bases: &mut [f32],
@@ -126,31 +162,27 @@ fn note_ons(
 ) -> Done {
     let mut code = from.code;
     let mut e = from.engine;
-    let mut i = 0usize;
-    while i < calls {
+    for i in 0..calls {
         let voice = voice_after(start, i);
-        let d = e.note_on(held, tables, voice, note);
-        code = first(code, d.code);
-        let next = d.engine;
-        e = next;
-        i += 1;
+        match e.note_on(held, tables, voice, note) {
+            Ok(next) => e = next,
+            Err(r) => code = first(code, r.number()),
+        }
     }
-    Done { code, engine: e }
+    Done { engine: e, code }
 }
 
 // calls of `set_base`, one destination after the other, each to the next sample
 fn set_bases(from: Done, calls: usize, bases: &mut [f32], samples: &[f32]) -> Done {
     let mut code = from.code;
     let mut e = from.engine;
-    let mut i = 0usize;
-    while i < calls {
-        let d = e.set_base(bases, i % SIGNALS, list::read(samples, i, 0.0));
-        code = first(code, d.code);
-        let next = d.engine;
-        e = next;
-        i += 1;
+    for i in 0..calls {
+        match e.set_base(bases, i % SIGNALS, list::read(samples, i, 0.0)) {
+            Ok(next) => e = next,
+            Err(r) => code = first(code, r.number()),
+        }
     }
-    Done { code, engine: e }
+    Done { engine: e, code }
 }
 
 // calls of `set_held`, one source after the other, each to the next sample
@@ -163,15 +195,13 @@ fn set_helds(
 ) -> Done {
     let mut code = from.code;
     let mut e = from.engine;
-    let mut i = 0usize;
-    while i < calls {
-        let d = e.set_held(held, globals, i % SIGNALS, list::read(samples, i, 0.0));
-        code = first(code, d.code);
-        let next = d.engine;
-        e = next;
-        i += 1;
+    for i in 0..calls {
+        match e.set_held(held, globals, i % SIGNALS, list::read(samples, i, 0.0)) {
+            Ok(next) => e = next,
+            Err(r) => code = first(code, r.number()),
+        }
     }
-    Done { code, engine: e }
+    Done { engine: e, code }
 }
 
 // blocks
@@ -190,17 +220,15 @@ fn blocks(
 ) -> Done {
     let mut code = 0u8;
     let mut e = engine;
-    let mut left = n;
-    while 0 < left {
-        let d = e.process(
+    for _ in 0..n {
+        match e.process(
             held, globals, bases, values, audio, tables, samples, signals, 0, frames,
-        );
-        code = first(code, d.code);
-        let next = d.engine;
-        e = next;
-        left -= 1;
+        ) {
+            Ok(next) => e = next,
+            Err(r) => code = first(code, r.number()),
+        }
     }
-    Done { code, engine: e }
+    Done { engine: e, code }
 }
 
 // the voice of the note before a block, so many being left
@@ -255,16 +283,13 @@ fn noted_blocks(
     let frames = s.frames;
     let mut code = 0u8;
     let mut e = engine;
-    let mut left = s.blocks;
-    while 0 < left {
-        let voice = voice_of(left, active);
+    for done in 0..s.blocks {
+        let voice = voice_of(s.blocks - done, active);
         let d = noted_block(
             e, voice, frames, signals, held, globals, bases, values, audio, tables, samples,
         );
         code = first(code, d.code);
-        let next = d.engine;
-        e = next;
-        left -= 1;
+        e = d.engine;
     }
     Done { code, engine: e }
 }

@@ -5,6 +5,7 @@
 
 ghost use Rattle.std.specs.Prelude.{◌≡◌, true, false, cond, ◌&&◌, List, ℕ, ◌+◌, ◌*◌, ◌≤◌, ◌<◌, min, eqb, length, Float};
 ghost use Rattle.config.specs.Sizes.{period};
+ghost use Rattle.refusal.specs.Refusal.{code_of};
 ghost use Rattle.number.specs.Number.{zero32, nearest32};
 ghost use Rattle.model.specs.Counts.{voice_count, frame_count, stride_of, chunks_most, engine_sources, plan_total, route_total};
 ghost use Rattle.model.specs.Tick.{off_phase, tick_of};
@@ -30,6 +31,7 @@ use audio_rows::{Sweeping, Work};
 use block_opening::{Counts, Lengths, NoteValue};
 use config::{FRAMES, PERIOD, SLOTS, SOURCES, VOICES};
 use lane_input::Scene;
+use refusal::Refusal;
 use state::{Block, Chunk, Signals, SourceMark, State};
 use voice::{Marks, Notes};
 
@@ -300,14 +302,12 @@ fn each_step(
 {
     let n = block_chunks::total(block);
     let mut next = state;
-    let mut i = 0usize;
-    while i < n {
+    for i in 0..n {
         let c = block_chunks::of(block, i);
         let after = chunk_step(
             next, i, c, held, globals, bases, values, audio, tables, samples, signals,
         );
         next = after;
-        i += 1;
     }
     next
 }
@@ -437,13 +437,11 @@ fn swept_steps(
     let n = block_chunks::total(block);
     let glides = glides_of(state);
     let mut moving = moving_of(state);
-    let mut i = 0usize;
-    while i < n {
+    for i in 0..n {
         let c = block_chunks::of(block, i);
         audio_rows::sweep_all(audio, sweeping, c, globals, bases, samples);
         let after = glide(moving, glides, c, held);
         moving = after;
-        i += 1;
     }
     moved(state, moving)
 }
@@ -733,9 +731,8 @@ fn run(
     small_of(next)
 }
 
-// What has moved of the state once a call with that number is answered: a refused one and an empty range move nothing.
+// What has moved of the state after an accepted call: an empty range moves nothing.
 pub fn answered(
-    code: u8,
     state: State,
     held: &mut [f32],
     globals: &mut [f32],
@@ -748,17 +745,14 @@ pub fn answered(
     start: usize,
     end: usize,
 ) -> Small
-    requires { code ≡ 0 → Room state (length held.old) (length values.old) (length audio.old)
+    requires { Room state (length held.old) (length values.old) (length audio.old)
         × (engine_sources state ≤ length globals.old) × (end ≤ frame_count state) }
     ensures { world_of (with_small state result) held.new globals.new bases.now
         values.new audio.new tables.now
-        ≡ answered_world code samples.now signals start end (world_of state held.old
+        ≡ answered_world 0 samples.now signals start end (world_of state held.old
         globals.old bases.now values.old audio.old
         tables.now) }
 {
-    if code != 0 {
-        return small_of(state);
-    }
     if end <= start {
         return small_of(state);
     }
@@ -767,9 +761,9 @@ pub fn answered(
     )
 }
 
-// The number by which a block up to frame `end` is refused, or 0.
-pub fn code(state: State, lent: Lengths, signals: Signals, end: usize) -> u8
-    ensures { result ≡ code_by (counts_of state) lent signals.part end }
+// Whether a block up to frame `end` is accepted, or why it is not.
+pub fn code(state: State, lent: Lengths, signals: Signals, end: usize) -> Result<(), Refusal>
+    ensures { code_of result ≡ code_by (counts_of state) lent signals.part end }
 {
     let config = state.config;
     let program = state.program;

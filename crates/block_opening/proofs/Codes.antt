@@ -1,8 +1,8 @@
 -- The judgement by numbers is that of the block; parts looked at one by one. Assumes nothing.
-use mathlib.Core.Path.{◌≡◌, refl}
+use mathlib.Core.Path.{◌≡◌, refl, sym, ap, ◌∙◌}
 use mathlib.Core.Bool.{Bool, true, false, cond, ◌||◌}
-use mathlib.Core.List.{List}
-use Prim.Native.Nat.{ℕ, suc, ◌+◌, ◌≤◌, ◌<◌, min}
+use mathlib.Core.List.{List, [], ◌∷◌}
+use Prim.Native.Nat.{ℕ, suc, ◌+◌, ◌-◌, ◌≤◌, ◌<◌, min}
 use native.Mathlib.Numerals.{add-one}
 use native.Mathlib.Omega.{arith}
 use borrow.Author.Tests.{lt-ltb, le-ltb, ltb-false}
@@ -10,6 +10,7 @@ use lib.Dec.{ltb}
 use lib.ListN.{length, get_or, drop, drop_of_length-le}
 use lib.Seq.{drop-cons}
 use lib.Ieee.{Float}
+use Rattle.std.specs.List.{list_any}
 use Rattle.config.specs.Sizes.{most_sources, most_destinations, most_frames}
 use Rattle.refusal.specs.Judge.{judged}
 use Rattle.state.specs.declared.SignalPart.{SignalPart}
@@ -26,56 +27,17 @@ pub code-of-block : (w : World) (samples : List Float) (signals : Signals) (end 
 unfolding code_by engine_short_by program_short_by judged
 code-of-block w samples signals end = refl
 
-abbrev pub no_part : SignalPart
-no_part = record { at = 0; len = 0; stride = 0 }
+pub any_stride_any : (parts : List SignalPart) → list_any over_stride parts ≡ any_stride parts
+any_stride_any [] = refl
+any_stride_any (p ∷ ps) = ap (λ r. over_stride p || r) (any_stride_any ps)
 
-module _ (parts : List SignalPart) (i : ℕ) (d : SignalPart) where
-  pub stride-here : i < length parts → over_stride (get_or parts i d) ≡ true → any_stride (drop i parts) ≡ true
-  stride-here h t = rw (drop-cons parts i d, t)
-
-  pub stride-next : i < length parts → over_stride (get_or parts i d) ≡ false → any_stride (drop i parts) ≡ any_stride (drop (i + 1) parts)
-  stride-next h t = rw (add-one, drop-cons parts i d, t)
-
-  pub stride-end : length parts ≤ i → any_stride (drop i parts) ≡ false
-  stride-end h = rw (drop_of_length-le parts h)
-
--- a part outside, looked for as the definition does
 out-two : (a b r : Bool) → (a || (b || r)) ≡ ((a || b) || r)
 out-two true b r = refl
 out-two false b r = refl
 
-module _ (parts : List SignalPart) (i : ℕ) (d : SignalPart) (n : ℕ) where
-  pub out-here : i < length parts → outside n (get_or parts i d) ≡ true → any_outside n (drop i parts) ≡ true
-  out-here h t = rw (drop-cons parts i d, out-two, t)
-
-  pub out-next : i < length parts → outside n (get_or parts i d) ≡ false → any_outside n (drop i parts) ≡ any_outside n (drop (i + 1) parts)
-  out-next h t = rw (add-one, drop-cons parts i d, out-two, t)
-
-  pub out-end : length parts ≤ i → any_outside n (drop i parts) ≡ false
-  out-end h = rw (drop_of_length-le parts h)
-
--- ---- three tests of lengths, one after the other
-
-module _ (a b : ℕ) (x y : ℕ) (u : Bool) where
-  pub short-first : (p : ℕ) → p ≡ x → a < p → true ≡ (ltb a x || (ltb b y || u))
-  short-first p e h = rw (lt-ltb a x (omega arith))
-
-  pub short-second : (p q : ℕ) → p ≡ x → p ≤ a → q ≡ y → b < q → true ≡ (ltb a x || (ltb b y || u))
-  short-second p q e h f k = rw (le-ltb a x (omega arith), lt-ltb b y (omega arith))
-
-  pub short-third : (p q : ℕ) (t : Bool) → p ≡ x → p ≤ a → q ≡ y → q ≤ b → t ≡ u → t ≡ (ltb a x || (ltb b y || u))
-  short-third p q t e h f k g = rw (le-ltb a x (omega arith), le-ltb b y (omega arith)) g
-
-module _ (n : Counts) (l : Lengths) (p : ℕ) where
-  pub engine-first : p ≡ held_need n.voices n.sources → l.held < p → true ≡ engine_short_by n l
-  unfolding engine_short_by
-  engine-first e h =
-      short-first l.held l.globals (held_need n.voices n.sources) (min n.sources most_sources) (ltb l.bases (min n.dests most_destinations)) p e h
-
-  pub program-first : p ≡ values_by n → l.values < p → true ≡ program_short_by n l
-  unfolding program_short_by
-  program-first e h =
-      short-first l.values l.audio (values_by n) (audio_by n) (ltb l.tables (cond n.tabled tables_need 0)) p e h
+pub any_outside_any : (n : ℕ) (parts : List SignalPart) → list_any (outside n) parts ≡ any_outside n parts
+any_outside_any n [] = refl
+any_outside_any n (p ∷ ps) = ap (λ r. outside n p || r) (any_outside_any n ps) ∙ sym (out-two (ltb n p.at) (ltb (n - p.at) p.len) (any_outside n ps))
 
 -- ---- the judgement, row by row
 

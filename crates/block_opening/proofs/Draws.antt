@@ -1,4 +1,5 @@
 -- The draws of a block, over the parts of a state and one at a time. Assumes nothing.
+use Rattle.std.specs.Prelude.{Option, Some, None}
 use mathlib.Core.Path.{◌≡◌, refl, ap, ◌∙◌}
 use mathlib.Core.Bool.{Bool, true, false, cond}
 use mathlib.Core.List.{List}
@@ -11,8 +12,7 @@ use lib.Ieee.{Float, nan}
 use Rattle.draw.specs.Xorshift.{step, draw_of}
 use Rattle.state.specs.declared.Read.{Read}
 use Rattle.state.specs.declared.Read.TheVariants as D
-use Rattle.state.specs.declared.Aux.{Aux}
-use Rattle.state.specs.declared.Aux.TheVariants as X
+use Rattle.state.specs.declared.Input.{Input}
 use Rattle.state.specs.declared.Route.{Route}
 use Rattle.state.specs.declared.State.{State}
 use Rattle.state_filled.specs.Filled.{no_route}
@@ -43,11 +43,11 @@ read-of-state st r p (D.Fed e v) d = refl
 read-of-state st r p D.Constant d = refl
 read-of-state st r p D.RouteRandom d = voices-of-state st (random_start st r p) (voice_count st) d
 
-aux-of-state : (st : State) (r : ℕ) (aux : Aux) (d : Drawn)
+aux-of-state : (st : State) (r : ℕ) (aux : Option Input) (d : Drawn)
     → drawn_aux st.marks.renoted (voice_count st) (random_start st r 1) aux d ≡ draw_aux st r aux d
 unfolding drawn_aux
-aux-of-state st r X.Missing d = refl
-aux-of-state st r (X.With i) d = read-of-state st r 1 i.read d
+aux-of-state st r None d = refl
+aux-of-state st r (Some i) d = read-of-state st r 1 i.read d
 
 pub routes-of-state : (st : State) (k : ℕ) (d : Drawn)
     → drawn_routes st.marks.renoted (voice_count st) (stride_of st) (chunks_most st) (plan_total st.program) st.program.route k d

@@ -1,10 +1,9 @@
 -- The draws of a block's routes, over the parts of a state that they read (model's Process). Definitions only.
-use Rattle.std.specs.Prelude.{Bool, false, cond, List, ℕ, zero, suc, ◌+◌, get_or, set}
+use Rattle.std.specs.Prelude.{Bool, false, cond, List, ℕ, zero, suc, ◌+◌, get_or, set, Option, Some, None}
 use Rattle.draw.specs.Xorshift.{step, draw_of}
 use Rattle.state.specs.declared.Read.{Read}
 use Rattle.state.specs.declared.Read.TheVariants as D
-use Rattle.state.specs.declared.Aux.{Aux}
-use Rattle.state.specs.declared.Aux.TheVariants as X
+use Rattle.state.specs.declared.Input.{Input}
 use Rattle.state.specs.declared.Route.{Route}
 use Rattle.state_filled.specs.Filled.{no_route}
 use Rattle.model.specs.Layout.{route_random}
@@ -32,10 +31,10 @@ drawn_read renoted n a (D.Fed e v) d = d
 drawn_read renoted n a D.Constant d = d
 drawn_read renoted n a D.RouteRandom d = drawn_voices renoted a n d
 
-unfoldable pub drawn_aux : List Bool → ℕ → ℕ → Aux → Drawn → Drawn
+unfoldable pub drawn_aux : List Bool → ℕ → ℕ → Option Input → Drawn → Drawn
 unfolding drawn_read
-drawn_aux renoted n a X.Missing d = d
-drawn_aux renoted n a (X.With i) d = drawn_read renoted n a i.read d
+drawn_aux renoted n a None d = d
+drawn_aux renoted n a (Some i) d = drawn_read renoted n a i.read d
 
 -- of route r: source before aux
 unfoldable pub drawn_route : List Bool → ℕ → ℕ → ℕ → ℕ → ℕ → Route → Drawn → Drawn

@@ -3,6 +3,7 @@
 #![tactic(auto)]
 
 ghost use Rattle.std.specs.Prelude.{◌≡◌, cond, ◌+◌, ◌*◌, ◌≤◌, ◌<◌, min, ltb, length};
+ghost use Rattle.refusal.specs.Refusal.{code_of};
 ghost use Rattle.draw.specs.Xorshift.{draw_of};
 ghost use Rattle.voice.specs.Notes.{moving};
 ghost use Rattle.slots_tables.specs.Tables.{tables_need};
@@ -16,8 +17,9 @@ ghost use Rattle.block_opening.specs.Draws.{draw_after, drawn_voices, drawn_read
 ghost use Rattle.block_opening.specs.Rows.{chunk_row, chunk_rows};
 
 use config::{DESTINATIONS, FRAMES, SIGNAL_STRIDE, SLOTS, SOURCES, VOICES};
+use refusal::Refusal;
 use slots_tables::TABLES;
-use state::{Aux, Kind, Plan, Read, Route, SignalPart, Signals, SourceMark};
+use state::{Input, Kind, Plan, Read, Route, SignalPart, Signals, SourceMark};
 use voice::{Glide, Notes, Voices};
 
 // ---- rows 1, 13 and 14
@@ -66,40 +68,20 @@ fn over_stride(part: SignalPart) -> bool
 pub fn any_stride(part: [SignalPart; SOURCES]) -> bool
     ensures { result ≡ any_stride part }
 {
-    let mut i = 0usize;
-    while i < SOURCES {
-        let p = part[i];
-        if over_stride(p) {
-            return true;
-        }
-        i += 1;
-    }
-    false
+    part.iter().any(|p| over_stride(*p))
 }
 
 fn outside(part: SignalPart, n: usize) -> bool
     ensures { result ≡ outside n part }
 {
-    let at = part.at;
-    if n < at {
-        return true;
-    }
-    n - at < part.len
+    n < part.at || n - part.at < part.len
 }
 
 // a part that does not lie inside n samples
 pub fn any_outside(part: [SignalPart; SOURCES], n: usize) -> bool
     ensures { result ≡ any_outside n part }
 {
-    let mut i = 0usize;
-    while i < SOURCES {
-        let p = part[i];
-        if outside(p, n) {
-            return true;
-        }
-        i += 1;
-    }
-    false
+    part.iter().any(|p| outside(*p, n))
 }
 
 // what the held numbers take
@@ -110,17 +92,13 @@ pub fn held_need(voices: usize, sources: usize) -> usize
 }
 
 // row 14 of the engine's memories
+#[tactic(auto, unfolding(crate::specs::Codes::engine_short_by))]
 fn engine_short(counts: Counts, lent: Lengths) -> bool
     ensures { result ≡ engine_short_by counts lent }
 {
-    let sources = counts.sources;
-    if lent.held < held_need(counts.voices, sources) {
-        return true;
-    }
-    if lent.globals < at_most(sources, SOURCES) {
-        return true;
-    }
-    lent.bases < at_most(counts.dests, DESTINATIONS)
+    lent.held < held_need(counts.voices, counts.sources)
+        || lent.globals < at_most(counts.sources, SOURCES)
+        || lent.bases < at_most(counts.dests, DESTINATIONS)
 }
 
 fn values_need(counts: Counts) -> usize
@@ -138,46 +116,45 @@ fn audio_need(counts: Counts) -> usize
 fn tables_short(tabled: bool, n: usize) -> bool
     ensures { result ≡ ltb n (cond tabled tables_need 0) }
 {
-    if tabled {
-        return n < TABLES;
-    }
-    false
+    tabled && n < TABLES
 }
 
 // row 14 of the program's memories
+#[tactic(auto, unfolding(crate::specs::Codes::program_short_by))]
 fn program_short(counts: Counts, lent: Lengths) -> bool
     ensures { result ≡ program_short_by counts lent }
 {
-    if lent.values < values_need(counts) {
-        return true;
-    }
-    if lent.audio < audio_need(counts) {
-        return true;
-    }
-    tables_short(counts.tabled, lent.tables)
+    lent.values < values_need(counts)
+        || lent.audio < audio_need(counts)
+        || tables_short(counts.tabled, lent.tables)
 }
 
-// the number by which a block up to frame `end` is refused, or 0
-pub fn process_code(counts: Counts, lent: Lengths, signals: Signals, end: usize) -> u8
-    ensures { result ≡ code_by counts lent signals.part end }
+// whether a block up to frame `end` is accepted, or why it is not
+pub fn process_code(
+    counts: Counts,
+    lent: Lengths,
+    signals: Signals,
+    end: usize,
+) -> Result<(), Refusal>
+    ensures { code_of result ≡ code_by counts lent signals.part end }
 {
     if at_most(counts.frames, FRAMES) < end {
-        return 1;
+        return Err(Refusal::RangeEnd);
     }
     let part = signals.part;
     if any_stride(part) {
-        return 13;
+        return Err(Refusal::Range);
     }
     if engine_short(counts, lent) {
-        return 14;
+        return Err(Refusal::Memory);
     }
     if program_short(counts, lent) {
-        return 14;
+        return Err(Refusal::Memory);
     }
     if any_outside(part, lent.samples) {
-        return 14;
+        return Err(Refusal::Memory);
     }
-    0
+    Ok(())
 }
 
 // ---- load
@@ -226,12 +203,10 @@ pub fn set_load(globals: &mut [f32], mark: [SourceMark; SOURCES], n: usize, x: f
     requires { (n ≤ 128) × (n ≤ length globals.old) }
     ensures { globals.new ≡ load_if mark x n globals.old }
 {
-    let mut i = 0usize;
-    while i < n {
+    for i in 0..n {
         let m = mark[i];
         let old = globals[i];
         globals[i] = load_lane(m, x, old);
-        i += 1;
     }
 }
 
@@ -321,13 +296,11 @@ fn put_held(
     requires { (sources ≤ 128) × (stride ≤ 64) × (lane < stride) × (stride * sources ≤ length held.old) }
     ensures { held.new ≡ held_if mark (passes note) stride lane x sources held.old }
 {
-    let mut i = 0usize;
-    while i < sources {
+    for i in 0..sources {
         let k = held_place(i, stride, lane);
         let m = mark[i];
         let old = held[k];
         held[k] = held_lane(note, m, x, old);
-        i += 1;
     }
 }
 
@@ -370,12 +343,10 @@ pub fn moved_held(
     }
     let glide = old.glide;
     let value = new.value;
-    let mut v = 0usize;
-    while v < n {
+    for v in 0..n {
         let g = glide[v];
         let x = value[v];
         put_moved(held, mark, note, stride, sources, v, g, x);
-        v += 1;
     }
 }
 
@@ -405,15 +376,13 @@ fn draw_voices(values: &mut [f32], renoted: [bool; VOICES], at: usize, n: usize,
     ensures { record { draw = result; values = values.new } ≡ drawn_voices renoted at n (record { draw = draw; values = values.old }) }
 {
     let mut last = draw;
-    let mut v = 0usize;
-    while v < n {
+    for v in 0..n {
         let on = renoted[v];
         let k = at + v;
         let old = values[k];
         let next = draw_after(on, last);
         values[k] = drawn_lane(on, next, old);
         last = next;
-        v += 1;
     }
     last
 }
@@ -447,7 +416,7 @@ fn draw_read(
 
 fn draw_aux(
     values: &mut [f32],
-    aux: Aux,
+    aux: Option<Input>,
     renoted: [bool; VOICES],
     at: usize,
     n: usize,
@@ -457,8 +426,8 @@ fn draw_aux(
     ensures { record { draw = result; values = values.new } ≡ drawn_aux renoted n at aux (record { draw = draw; values = values.old }) }
 {
     match aux {
-        Aux::Missing => draw,
-        Aux::With(input) => {
+        None => draw,
+        Some(input) => {
             let read = input.read;
             draw_read(values, read, renoted, at, n, draw)
         }
@@ -517,13 +486,11 @@ pub fn draw_routes(
     ensures { record { draw = result; values = values.new } ≡ drawn_routes renoted n stride chunks plans route routes (record { draw = draw; values = values.old }) }
 {
     let mut last = draw;
-    let mut r = 0usize;
-    while r < routes {
+    for r in 0..routes {
         let x = route[r];
         let at = random_start(stride, chunks, plans, r);
         let next = draw_route(values, x, renoted, at, stride, n, last);
         last = next;
-        r += 1;
     }
     last
 }
@@ -585,11 +552,9 @@ pub fn rows_of_chunk(
     requires { (1 ≤ stride) × (stride ≤ 64) × (chunks ≤ 130) × (i < chunks) × (control ≤ 64) × (control * plan_size stride chunks ≤ length values.old) }
     ensures { values.new ≡ chunk_rows plan stride chunks i control values.old }
 {
-    let mut d = 0usize;
-    while d < control {
+    for d in 0..control {
         let p = plan[d];
         let w = plan_width(stride, p.voice);
         row_of_chunk(values, w, d, i, stride, chunks);
-        d += 1;
     }
 }

@@ -15,7 +15,7 @@ use plan_sweep::Field;
 use state::{Signals, State};
 
 // What every chunk goes by: whether every plan is swept, the field, how many chunks a plan has room for, how many
-// control plans there are, and how many with audio.
+// control plans there are, and how many with audio. No Option: the numbers hold whether `on` or not.
 #[derive(Clone, Copy)]
 pub struct Course {
     pub on: bool,

@@ -27,24 +27,18 @@ use Rattle.state.specs.declared.Slot.{Slot}
 use Rattle.state.specs.declared.Matrix.{Matrix}
 use Rattle.state.specs.declared.State.{State}
 use Rattle.state.specs.declared.Target.{Target}
-use Rattle.state.specs.declared.Pick.TheVariants as A
+use Rattle.std.specs.Prelude.{Some}
 use Rattle.state.specs.declared.Polarity.TheVariants as L
 use Rattle.slots.specs.Slots.{first_empty, route_slot, kept_amount, with_aux}
 use Rattle.matrix_editing.specs.Drag.{both_finite}
 use Rattle.matrix_editing.specs.Free.{first_free}
-use Rattle.source.specs.declared.StandardMade.{StandardMade}
 use Rattle.source.specs.Registry.{added_or, add_source, registered, find_rows, found_reply, find_source, places_of, found_says}
 use Rattle.source.proofs.Registry.{find-said}
-use Rattle.source.specs.Standard.{standard_sources}
-use Rattle.dest.specs.declared.DestAdded.{DestAdded}
-use Rattle.dest.specs.Adding.{add_code, add_dest}
-use Rattle.curve.specs.declared.Looked.{Looked}
-use Rattle.curve.specs.declared.Slewed.{Slewed}
-use Rattle.curve.specs.CurveCalls.{lookup_call, slew_call}
-use Rattle.matrix.specs.declared.Place.TheVariants as P
-use Rattle.matrix.specs.declared.Placed.{Placed}
-use Rattle.matrix.specs.declared.PolarityMade.{PolarityMade}
-use Rattle.matrix.specs.declared.Depth.{Depth}
+use Rattle.source.specs.Standard.{StandardMade, standard_sources}
+use Rattle.dest.specs.Adding.{DestAdded, add_code, add_dest}
+use Rattle.curve.specs.CurveCalls.{Looked, lookup_call, Slewed, slew_call}
+use Rattle.matrix.specs.Place as P
+use Rattle.matrix.specs.Answers.{Placed, PolarityMade, Depth}
 use Rattle.matrix.specs.Edits.{answered, edited, placed, tabled, slot_at, set_slot, add_route, remove_slot, set_bypass}
 use Rattle.matrix.specs.Edits.{set_slot_amount}
 use Rattle.matrix.specs.Edits.{set_slot_output, set_polarity, set_aux, set_linear, set_curve, set_note_curve, sort_slots}
@@ -133,7 +127,7 @@ vibrato : (m : Matrix) (lfos : List ℕ) (wheel : ℕ) (t : Target) (x : Float) 
 unfolding create_vibrato add_vibrato
 vibrato m lfos wheel t x =
     let free = ltb (first_free lfos m.slot) (length lfos) in
-    let slot = with_aux (A.Source wheel) false (route_slot (get_or lfos (first_free lfos m.slot) 0) t (kept_amount x) L.Bipolar) in
+    let slot = with_aux (Some wheel) false (route_slot (get_or lfos (first_free lfos m.slot) 0) t (kept_amount x) L.Bipolar) in
     six (λ (p : Placed). p.code) (finite x)
     (cond free (placed 0 m (first_empty m.slot) slot) (record { code = 0; place = P.NoFreeLfo; matrix = m }))
     (record { code = 6; place = P.Refused; matrix = m })

@@ -20,7 +20,7 @@ use Rattle.state.specs.declared.Range.{Range}
 use Rattle.state.specs.declared.Sources.{Sources}
 use Rattle.state.specs.declared.Dest.{Dest}
 use Rattle.state.specs.declared.Destinations.{Destinations}
-use Rattle.state.specs.declared.Pick.{Pick}
+use Rattle.std.specs.Prelude.{Option}
 use Rattle.state.specs.declared.Target.{Target}
 use Rattle.state.specs.declared.Polarity.{Polarity}
 use Rattle.state.specs.declared.Slot.{Slot}
@@ -77,7 +77,7 @@ pub data Asked : Type 0 where
   matrix-set-amount : Matrix → ℕ → Float → Asked
   matrix-set-output : Matrix → ℕ → Float → Asked
   matrix-set-polarity : Matrix → ℕ → Polarity → Asked
-  matrix-set-aux : Matrix → ℕ → Pick → Bool → Asked
+  matrix-set-aux : Matrix → ℕ → Option ℕ → Bool → Asked
   matrix-set-curve : Matrix → List Float → ℕ → CurveSlot → List Float → Float → Float → Asked
   matrix-set-linear : Matrix → ℕ → CurveSlot → Asked
   matrix-set-note-curve : Matrix → List Float → NoteSlot → List Float → Asked

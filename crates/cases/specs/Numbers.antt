@@ -1,6 +1,6 @@
 -- The number that an input is, byte by byte: decimal digits, at least one, then at most one line feed, then nothing.
 -- Definitions, and what some inputs come to.
-use Rattle.std.specs.Prelude.{◌≡◌, refl, cond, List, [], ◌∷◌, ◌++◌, ℕ, ◌+◌, ◌-◌, ◌*◌, ltb, eqb}
+use Rattle.std.specs.Prelude.{◌≡◌, refl, cond, List, [], ◌∷◌, ◌++◌, ℕ, ◌+◌, ◌-◌, ◌*◌, ltb, eqb, Option, None, Some}
 use Rattle.cases.specs.declared.digits.Seen.{Seen}
 
 -- a number with one digit more; from 100 on it stays, since no case has such a number
@@ -25,12 +25,12 @@ unfoldable pub after_all : Seen → List ℕ → Seen
 after_all s [] = s
 after_all s (b ∷ w) = after_all (after s b) w
 
--- 0 where the input is no number
-unfoldable pub case_of : Seen → ℕ
-case_of Seen.Nothing = 0
-case_of (Seen.Digits n) = n
-case_of (Seen.Ended n) = n
-case_of Seen.Other = 0
+-- none where the input is no number
+unfoldable pub case_of : Seen → Option ℕ
+case_of Seen.Nothing = None
+case_of (Seen.Digits n) = Some n
+case_of (Seen.Ended n) = Some n
+case_of Seen.Other = None
 
 -- into which pieces an input is cut changes nothing
 pub pieces : (s : Seen) (a b : List ℕ) → after_all (after_all s a) b ≡ after_all s (a ++ b)
@@ -38,15 +38,17 @@ unfolding after_all
 pieces s [] b = refl
 pieces s (x ∷ a) b = pieces (after s x) a b
 
-number_of : List ℕ → ℕ
+number_of : List ℕ → Option ℕ
 number_of w = case_of (after_all Seen.Nothing w)
 
 -- "5", "05", "10", and "5" with a line feed
-taken : (number_of (53 ∷ []) ≡ 5) × (number_of (48 ∷ 53 ∷ []) ≡ 5) × (number_of (49 ∷ 48 ∷ []) ≡ 10) × (number_of (53 ∷ 10 ∷ []) ≡ 5)
+taken : (number_of (53 ∷ []) ≡ Some 5) × (number_of (48 ∷ 53 ∷ []) ≡ Some 5) × (number_of (49 ∷ 48 ∷ []) ≡ Some 10)
+    × (number_of (53 ∷ 10 ∷ []) ≡ Some 5)
 unfolding number_of case_of after_all after after_digits with_digit grown
 taken = (refl, refl, refl, refl)
 
 -- the empty input, " 5", "5x", "+5", "5" with two line feeds, and a line feed alone
-passed_over : (number_of [] ≡ 0) × (number_of (32 ∷ 53 ∷ []) ≡ 0) × (number_of (53 ∷ 120 ∷ []) ≡ 0) × (number_of (43 ∷ 53 ∷ []) ≡ 0) × (number_of (53 ∷ 10 ∷ 10 ∷ []) ≡ 0) × (number_of (10 ∷ []) ≡ 0)
+passed_over : (number_of [] ≡ None) × (number_of (32 ∷ 53 ∷ []) ≡ None) × (number_of (53 ∷ 120 ∷ []) ≡ None)
+    × (number_of (43 ∷ 53 ∷ []) ≡ None) × (number_of (53 ∷ 10 ∷ 10 ∷ []) ≡ None) × (number_of (10 ∷ []) ≡ None)
 unfolding number_of case_of after_all after after_digits with_digit grown
 passed_over = (refl, refl, refl, refl, refl, refl)

@@ -15,6 +15,7 @@ pub enum Seen {
     Other,
 }
 
+#[tactic(auto, unfolding(crate::specs::Numbers::grown))]
 fn grown(n: u64, digit: u64) -> u64
     requires { digit ≤ 9 }
     ensures { result ≡ grown n digit }
@@ -25,6 +26,7 @@ fn grown(n: u64, digit: u64) -> u64
     n * 10 + digit
 }
 
+#[tactic(auto, unfolding(crate::specs::Numbers::with_digit))]
 fn with_digit(n: u64, b: u8) -> Seen
     ensures { result ≡ with_digit n b }
 {
@@ -37,6 +39,7 @@ fn with_digit(n: u64, b: u8) -> Seen
     Seen::Digits(grown(n, (b - 48) as u64))
 }
 
+#[tactic(auto, unfolding(crate::specs::Numbers::after_digits))]
 fn after_digits(n: u64, b: u8) -> Seen
     ensures { result ≡ after_digits n b }
 {
@@ -46,14 +49,14 @@ fn after_digits(n: u64, b: u8) -> Seen
     with_digit(n, b)
 }
 
+#[tactic(auto, unfolding(crate::specs::Numbers::after))]
 fn after(seen: Seen, b: u8) -> Seen
     ensures { result ≡ after seen b }
 {
     match seen {
         Seen::Nothing => with_digit(0, b),
         Seen::Digits(n) => after_digits(n, b),
-        Seen::Ended(n) => Seen::Other,
-        Seen::Other => Seen::Other,
+        Seen::Ended(_) | Seen::Other => Seen::Other,
     }
 }
 
@@ -62,31 +65,19 @@ pub fn after_all(seen: Seen, bytes: &[u8]) -> Seen
     ensures { result ≡ after_all seen bytes.now }
 {
     let mut s = seen;
-    let mut i = 0usize;
-    while i < bytes.len() {
-        let next = after(s, bytes[i]);
-        s = next;
-        i += 1usize;
+    for b in bytes {
+        s = after(s, *b);
     }
     s
 }
 
-// whether more bytes change nothing
-pub fn is_other(seen: Seen) -> bool {
-    match seen {
-        Seen::Other => true,
-        _ => false,
-    }
-}
-
-// the number that these bytes are; 0 where they are none
-pub fn case_of(seen: Seen) -> u64
+// the number that these bytes are, where they are one
+#[tactic(auto, unfolding(crate::specs::Numbers::case_of))]
+pub fn case_of(seen: Seen) -> Option<u64>
     ensures { result ≡ case_of seen }
 {
     match seen {
-        Seen::Nothing => 0,
-        Seen::Digits(n) => n,
-        Seen::Ended(n) => n,
-        Seen::Other => 0,
+        Seen::Digits(n) | Seen::Ended(n) => Some(n),
+        Seen::Nothing | Seen::Other => None,
     }
 }

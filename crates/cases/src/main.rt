@@ -10,31 +10,17 @@ use digits::Seen;
 use std::io::{Stdin, Stdout};
 use trace_session::Session;
 
-// none where the input is over, or no more of it matters, else one less
-fn fewer(left: u64, done: bool, other: bool) -> u64
-    requires { 0 < left }
-    ensures { result < left }
-{
-    if done {
-        return 0;
-    }
-    if other {
-        return 0;
-    }
-    left - 1
-}
-
-// The case number on standard input, which is read in pieces, at most 2^62 of them; 0 where there is none.
-fn asked(stdin: Stdin) -> u64 {
+// The case number on standard input, which is read in pieces, where there is one.
+fn asked(stdin: Stdin) -> Option<u64> {
     let mut from = stdin;
     let mut buffer = [0u8; 65536];
     let mut seen = Seen::Nothing;
-    let mut left = 4611686018427387904u64;
-    while 0 < left {
+    for _ in 0..u64::MAX {
         let n = streams::read(&mut from, &mut buffer);
-        let next = digits::after_all(seen, trace_input_session::part(&buffer, 0, n));
-        seen = next;
-        left = fewer(left, n < 65536, digits::is_other(seen));
+        seen = digits::after_all(seen, trace_input_session::part(&buffer, 0, n));
+        if n < buffer.len() || matches!(seen, Seen::Other) {
+            break;
+        }
     }
     digits::case_of(seen)
 }
@@ -97,6 +83,7 @@ fn play_lines(
 ) {
     let mut s = trace_session::start();
     let mut at = 0usize;
+    // Not a for: the step is a line, not 1.
     while at < text.len() {
         let end = trace_input_lines::line_end(text, at, text.len());
         let next = played(
@@ -129,23 +116,19 @@ fn play_case(stdout: Stdout, text: &[u8]) {
 }
 
 fn main(rt: HostRuntime) {
-    let case = asked(rt.stdin());
-    if case == 5 {
-        play_case(
+    match asked(rt.stdin()) {
+        Some(5) => play_case(
             rt.stdout(),
             b"print cases\nconfig 473B8000 64 1\nsource one constant g u\ndest p:0 g control 00000000 3F800000 -\nslot 0 src=0 dst=p:0 amt=3F000000 out=3F800000\ncompile P\nengine\nset_base 0 3E800000\nswap P\nprocess 0 64\n",
-        );
-    }
-    if case == 10 {
-        play_case(
+        ),
+        Some(10) => play_case(
             rt.stdout(),
             b"print cases\nconfig 473B8000 64 1\nsource one constant g u\ndest p:0 g control 00000000 3F800000 -\nslot 0 src=0 dst=p:0 amt=3F000000 out=3F800000\ncompile P\nengine\nset_base 0 3E800000\nprocess 0 5\nnote_on 0 42700000 3F800000 0 00000000\nvoice_ended 0\nswap P\nprocess 0 27\n",
-        );
-    }
-    if case == 13 {
-        play_case(
+        ),
+        Some(13) => play_case(
             rt.stdout(),
             b"print cases\nconfig 473B8000 64 1\nsource one constant g u\ndest p:0 g control 00000000 3F800000 -\ndest p:1 g control 00000000 3F800000 amt:0\nslot 0 src=0 dst=p:0 amt=3F000000 out=3F800000\nslot 1 src=0 dst=p:1 amt=3E800000 out=3F800000\ncompile P\nengine\nset_base 0 3E800000\nswap P\nprocess 0 64\n",
-        );
+        ),
+        _ => {}
     }
 }

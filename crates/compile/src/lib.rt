@@ -4,8 +4,8 @@
 
 ghost use Rattle.std.specs.Prelude.{◌≡◌, [], map, ◌≤◌, length};
 ghost use Rattle.state.specs.declared.Slot.{Slot};
-ghost use Rattle.state_filled.specs.Filled.{candidates_in, readers_in, numbers_in, plans_of, routes_of};
 ghost use Rattle.state.specs.Registry.{dest_at};
+ghost use Rattle.state_filled.specs.Filled.{no_plan, no_route, no_skip};
 ghost use Rattle.model.specs.Feeds.{is_voice, counted, audio_in};
 ghost use Rattle.model.specs.Routes.{routes_in};
 ghost use Rattle.model.specs.Plans.{readers_into, plan_by, plans_in, routes_over, gains_of, compiled};
@@ -13,8 +13,11 @@ ghost use Rattle.model.specs.Compile.{empty_of, zeroed};
 ghost use Rattle.compile_routes.specs.Added.{routes_added};
 
 use config::{Config, SLOTS};
-use state::{Base, Dest, Destinations, Gains, Matrix, NoteCurve, Plan, Program, Slot, Sources};
-use state_filled::{Candidates, Numbers, Plans, Readers, Routes};
+use state::{
+    Base, Candidate, Dest, Destinations, Gains, Matrix, NoteCurve, Plan, Program, Reader, Route,
+    Skipped, Slot, Sources,
+};
+use state_filled::List;
 
 // ---- plans
 
@@ -37,14 +40,14 @@ fn plan_by(d: u16, entry: Dest, base: Base, audio: bool, first: usize, count: us
 // the plan of the entry, number d
 fn plan_of(
     sources: Sources,
-    candidates: Candidates,
+    candidates: &[Candidate],
     d: u16,
     entry: Dest,
     first: usize,
     count: usize,
 ) -> Plan
     ensures { result ≡ plan_by d entry (counted sources entry.feed)
-        (audio_in sources (candidates_in candidates) d entry) first count }
+        (audio_in sources candidates.now d entry) first count }
 {
     let feed = entry.feed;
     let base = compile_feeds::counted(sources, feed);
@@ -53,62 +56,28 @@ fn plan_of(
 }
 
 // the plans in their order
+#[tactic(auto, unfolding(model::specs::Plans::plan_by))]
 fn plans(
     sources: Sources,
     dests: Destinations,
-    candidates: Candidates,
-    readers: Readers,
-    order: Numbers,
-) -> Plans
-    ensures { result ≡ plans_of (plans_in sources dests (candidates_in candidates) (readers_in readers) 0
-        (numbers_in order)) }
+    candidates: &[Candidate],
+    readers: &List<Reader>,
+    order: &List<u16>,
+) -> List<Plan>
+    ensures { result.items ≡ plans_in sources dests candidates.now readers.now.items 0 order.now.items }
 {
-    let n = state_filled::held(order.count);
-    let mut out = state_filled::no_plans();
+    let mut out = List::new();
     let mut first = 0;
-    let mut k = 0;
-    while k < n {
-        let d = order.at[k];
-        let e = state_registry::dest_at(dests, d as usize);
-        let count = compile_routes::route_count(readers, d);
-        let next = state_filled::add_plan(out, plan_of(sources, candidates, d, e, first, count));
-        out = next;
+    for d in order.as_slice() {
+        let e = state_registry::dest_at(dests, *d as usize);
+        let count = compile_routes::route_count(readers, *d);
+        state_filled::add(&mut out, plan_of(sources, candidates, *d, e, first, count));
         first += count;
-        k += 1;
     }
     out
 }
 
 // ---- routes
-
-// the routes so far, and those of d
-fn with_routes(
-    list: Routes,
-    rate: f32,
-    sources: Sources,
-    dests: Destinations,
-    slot: [Slot; SLOTS],
-    readers: Readers,
-    order: Numbers,
-    d: u16,
-) -> Routes
-    ensures { result ≡ routes_added list
-        (routes_in rate sources (numbers_in order) slot (is_voice (dest_at dests d).scope)
-        (readers_into d (readers_in readers))) }
-{
-    let e = state_registry::dest_at(dests, d as usize);
-    let scope = e.scope;
-    compile_routes::with_routes(
-        list,
-        rate,
-        sources,
-        order,
-        slot,
-        compile_feeds::is_voice(scope),
-        d,
-        readers,
-    )
-}
 
 // the routes, plan by plan
 fn routes(
@@ -116,20 +85,17 @@ fn routes(
     sources: Sources,
     dests: Destinations,
     slot: [Slot; SLOTS],
-    readers: Readers,
-    order: Numbers,
-) -> Routes
-    ensures { result ≡ routes_added (routes_of [])
-        (routes_over rate sources dests slot (readers_in readers) (numbers_in order) (numbers_in order)) }
+    readers: &[Reader],
+    order: &List<u16>,
+) -> List<Route>
+    ensures { result.items ≡ routes_added []
+        (routes_over rate sources dests slot readers.now order.now.items order.now.items) }
 {
-    let n = state_filled::held(order.count);
-    let mut out = state_filled::no_routes();
-    let mut k = 0;
-    while k < n {
-        let d = order.at[k];
-        let next = with_routes(out, rate, sources, dests, slot, readers, order, d);
-        out = next;
-        k += 1;
+    let mut out = List::new();
+    for d in order.as_slice() {
+        let e = state_registry::dest_at(dests, *d as usize);
+        let voice = compile_feeds::is_voice(e.scope);
+        compile_routes::add_routes(&mut out, rate, sources, order, slot, voice, *d, readers);
     }
     out
 }
@@ -142,17 +108,36 @@ fn gains(slot: [Slot; SLOTS]) -> Gains
 {
     let mut amount = [0.0; SLOTS];
     let mut output = [0.0; SLOTS];
-    let mut n = 0;
-    while n < SLOTS {
+    for n in 0..SLOTS {
         let s = slot[n];
         amount[n] = s.amount;
         output[n] = s.output;
-        n += 1;
     }
     Gains { amount, output }
 }
 
 // ---- the program
+
+// what stands past the last plan
+fn no_plan() -> Plan
+    ensures { result ≡ no_plan }
+{
+    Plan::default()
+}
+
+// what stands past the last route
+fn no_route() -> Route
+    ensures { result ≡ no_route }
+{
+    Route::default()
+}
+
+// what stands past the last slot left out
+fn no_skip() -> Skipped
+    ensures { result ≡ no_skip }
+{
+    Skipped::default()
+}
 
 // the program of matrix, registries and configuration
 pub fn compiled(matrix: Matrix, sources: Sources, dests: Destinations, config: Config) -> Program
@@ -160,53 +145,39 @@ pub fn compiled(matrix: Matrix, sources: Sources, dests: Destinations, config: C
 {
     let slot = matrix.slot;
     let verdict = compile_candidates::verdicts(sources, dests, slot);
-    let candidates = compile_candidates::candidates(verdict);
-    let used = compile_feeds::used_dests(sources, dests, candidates);
-    let readers = compile_feeds::readers(used, candidates);
-    let planned = compile_order::plan_order(used, readers);
-    let order = planned.order;
-    let plan_list = plans(sources, dests, candidates, readers, order);
-    let plan = plan_list.at;
-    let route_list = routes(config.sample_rate, sources, dests, slot, readers, order);
-    let route = route_list.at;
-    let left_out = compile_candidates::skips(verdict);
-    let skipped = left_out.at;
-    let gains = gains(slot);
-    let velocity = matrix.velocity;
-    let key = matrix.key;
+    let candidates = compile_candidates::candidates(&verdict);
+    let used = compile_feeds::used_dests(sources, dests, &candidates);
+    let readers = compile_feeds::readers(&used, &candidates);
+    let planned = compile_order::plan_order(&used, &readers);
+    let order = &planned.order;
+    let plans = plans(sources, dests, &candidates, &readers, order);
+    let routes = routes(config.sample_rate, sources, dests, slot, &readers, order);
+    let left_out = compile_candidates::skips(&verdict);
     Program {
         config,
         sources: state_registry::source_count(sources),
         dests: state_registry::dest_count(dests),
-        plans: order.count,
+        plans: order.len(),
         control: planned.control,
-        routes: candidates.count,
-        plan,
-        route,
-        gains,
-        velocity,
-        key,
+        routes: candidates.len(),
+        plan: state_filled::padded(&plans, no_plan()),
+        route: state_filled::padded(&routes, no_route()),
+        gains: gains(slot),
+        velocity: matrix.velocity,
+        key: matrix.key,
         glide: matrix.glide,
         velocity_legato: matrix.velocity_legato,
         tabled: slots_tables::names_table(matrix),
-        skips: left_out.count,
-        skipped,
+        skips: left_out.len(),
+        skipped: state_filled::padded(&left_out, no_skip()),
     }
 }
 
 // the program with no plans and no routes
+#[tactic(auto, unfolding(model::specs::Compile::empty_of))]
 pub fn empty_of(config: Config) -> Program
     ensures { result ≡ empty_of config }
 {
-    let plans = state_filled::no_plans();
-    let plan = plans.at;
-    let routes = state_filled::no_routes();
-    let route = routes.at;
-    let skips = state_filled::no_skips();
-    let skipped = skips.at;
-    let amount = [0.0; SLOTS];
-    let output = [1.0; SLOTS];
-    let gains = Gains { amount, output };
     Program {
         config,
         sources: 0,
@@ -214,16 +185,19 @@ pub fn empty_of(config: Config) -> Program
         plans: 0,
         control: 0,
         routes: 0,
-        plan,
-        route,
-        gains,
+        plan: [no_plan(); SLOTS],
+        route: [no_route(); SLOTS],
+        gains: Gains {
+            amount: [0.0; SLOTS],
+            output: [1.0; SLOTS],
+        },
         velocity: NoteCurve::Linear,
         key: NoteCurve::Linear,
         glide: false,
         velocity_legato: false,
         tabled: false,
         skips: 0,
-        skipped,
+        skipped: [no_skip(); SLOTS],
     }
 }
 

@@ -14,11 +14,11 @@ use Rattle.state.specs.declared.Skipped.{Skipped}
 use Rattle.state.specs.declared.Candidate.{Candidate}
 use Rattle.state.specs.declared.Verdict.{Verdict}
 use Rattle.state.specs.declared.Verdict.TheVariants.{Over, LeftOut, Taken}
-use Rattle.state_filled.specs.Filled.{candidates_of, skips_of}
-use Rattle.state_filled.proofs.Laws.{candidates-more, skips-more}
+use Rattle.state.specs.declared.Reason.{Reason}
+use Rattle.state_filled.specs.Filled.{added}
+use Rattle.state_filled.proofs.Laws.{added-more}
 use Rattle.model.specs.Wiring.{verdict, verdicts_from, with_candidate, taken_of, with_skipped, left_out_from}
 use Rattle.model.proofs.Candidates.{verdicts-append, taken-append, taken-length, left_out-append, left_out-length}
-use Rattle.compile_candidates.specs.Added.{candidate_added, skip_added}
 
 -- ---- verdicts
 
@@ -57,41 +57,3 @@ module _ (ss : Sources) (ds : Destinations) (l : List Slot) where
   pub judged-all : (n : ℕ) (out : List Verdict) → length l ≡ slots → slots ≤ n → Judged ss ds l n out → out ≡ verdicts_from ss ds 0 l
   judged-all n out e h j =
       sym (take_all n out (omega (arith, j.as_long))) ∙ j.so_far ∙ ap (verdicts_from ss ds 0) (take_all n l (omega arith))
-
--- ---- the candidates, and the slots left out
-
-candidate-added : (l : List Candidate) (v : Verdict) → length l < slots → candidate_added (candidates_of l) v ≡ candidates_of (l ++ with_candidate v [])
-candidate-added l Over h = ap candidates_of (sym (append-nil l))
-candidate-added l (LeftOut r) h = ap candidates_of (sym (append-nil l))
-candidate-added l (Taken c) h = candidates-more l c h
-
-skip-added : (l : List Skipped) (n : ℕ) (v : Verdict) → length l < slots → skip_added (skips_of l) n v ≡ skips_of (l ++ with_skipped n v [])
-skip-added l n Over h = ap skips_of (sym (append-nil l))
-skip-added l n (LeftOut r) h = skips-more l _ h
-skip-added l n (Taken c) h = ap skips_of (sym (append-nil l))
-
-module _ (vs : List Verdict) (n : ℕ) (d : Verdict) (e : length vs ≡ slots) (h : n < slots) where
-  first : length (take n vs) ≡ n
-  first = length-take-le n vs (omega arith)
-
-  one_more : take (n + 1) vs ≡ take n vs ++ get_or vs n d ∷ []
-  one_more = ap (λ (k : ℕ). take k vs) (add-one n) ∙ take-suc vs n d (omega arith)
-
-  pub candidates-next : candidate_added (candidates_of (taken_of (take n vs))) (get_or vs n d) ≡ candidates_of (taken_of (take (n + 1) vs))
-  candidates-next =
-      candidate-added (taken_of (take n vs)) (get_or vs n d) (omega (arith, taken-length (take n vs), first))
-      ∙ ap candidates_of (sym (ap taken_of one_more ∙ taken-append (take n vs) (get_or vs n d ∷ [])))
-
-  pub skips-next : skip_added (skips_of (left_out_from 0 (take n vs))) n (get_or vs n d) ≡ skips_of (left_out_from 0 (take (n + 1) vs))
-  skips-next =
-      let k : 0 + length (take n vs) ≡ n = omega (arith, first) in
-      skip-added (left_out_from 0 (take n vs)) n (get_or vs n d) (omega (arith, left_out-length 0 (take n vs), first))
-      ∙ ap skips_of (sym (
-      ap (left_out_from 0) one_more
-      ∙ left_out-append 0 (take n vs) (get_or vs n d ∷ [])
-      ∙ ap (λ (i : ℕ). left_out_from 0 (take n vs) ++ with_skipped i (get_or vs n d) []) k
-      ))
-
--- after the last turn
-pub whole : (vs : List Verdict) (n : ℕ) → length vs ≡ slots → slots ≤ n → take n vs ≡ vs
-whole vs n e h = take_all n vs (omega arith)

@@ -4,44 +4,38 @@
 
 ghost use Rattle.std.specs.Prelude.{◌≡◌, true, ◌<◌};
 ghost use Rattle.config.specs.Sizes.{slots};
-ghost use Rattle.state.specs.declared.AuxSource.TheVariants as X;
-ghost use Rattle.state.specs.declared.Pick.TheVariants as P;
 ghost use Rattle.state.specs.Registry.{dest_place};
-ghost use Rattle.state_filled.specs.Filled.{candidates_of, skips_of};
 ghost use Rattle.model.specs.Wiring.{aux_known, aux_of, looked, verdict_by, verdict, verdicts_from, taken_of};
 ghost use Rattle.model.specs.Wiring.{left_out_from};
-ghost use Rattle.compile_candidates.specs.Added.{candidate_added, skip_added};
 
 use config::SLOTS;
-use state::{
-    Aim, AuxSource, Candidate, Destinations, Pick, Reason, Skipped, Slot, Sources, Target, Verdict,
-};
-use state_filled::{Candidates, Skips};
+use state::{Candidate, Destinations, Reason, Skipped, Slot, Sources, Target, Verdict};
+use state_filled::List;
 
-fn aux_known(sources: Sources, aux: Pick) -> bool
+fn aux_known(sources: Sources, aux: Option<usize>) -> bool
     ensures { result ≡ aux_known sources aux }
 {
     match aux {
-        Pick::Nothing => true,
-        Pick::Source(i) => state_registry::known_source(sources, i),
+        None => true,
+        Some(i) => state_registry::known_source(sources, i),
     }
 }
 
 // a known aux as a candidate keeps it
-fn aux_of(sources: Sources, aux: Pick) -> AuxSource
+fn aux_of(sources: Sources, aux: Option<usize>) -> Option<u8>
     ensures { aux_known sources aux ≡ true → result ≡ aux_of aux }
 {
     match aux {
-        Pick::Nothing => AuxSource::Nothing,
-        Pick::Source(i) => kept(i),
+        None => None,
+        Some(i) => kept(i),
     }
 }
 
 // a number of a source in a byte
-fn kept(i: usize) -> AuxSource
-    ensures { i < 256 → result ≡ X.Source i }
+fn kept(i: usize) -> Option<u8>
+    ensures { i < 256 → result ≡ Some i }
 {
-    AuxSource::Source((i % 256) as u8)
+    Some((i % 256) as u8)
 }
 
 // what becomes of slot n, which names source i and the target
@@ -50,7 +44,7 @@ fn look(
     dests: Destinations,
     n: usize,
     i: usize,
-    aux: Pick,
+    aux: Option<usize>,
     target: Target,
 ) -> Verdict
     requires { n < slots }
@@ -85,16 +79,16 @@ fn aimed(
     dests: Destinations,
     n: usize,
     i: usize,
-    aux: Pick,
+    aux: Option<usize>,
     bypass: bool,
-    destination: Aim,
+    destination: Option<Target>,
 ) -> Verdict
     requires { n < slots }
-    ensures { result ≡ verdict_by sources dests n bypass aux (P.Source i) destination }
+    ensures { result ≡ verdict_by sources dests n bypass aux (Some i) destination }
 {
     match destination {
-        Aim::Nothing => Verdict::Over,
-        Aim::At(target) => {
+        None => Verdict::Over,
+        Some(target) => {
             if bypass {
                 Verdict::Over
             } else {
@@ -113,8 +107,8 @@ fn verdict(sources: Sources, dests: Destinations, n: usize, slot: Slot) -> Verdi
     let aux = slot.aux;
     let destination = slot.destination;
     match source {
-        Pick::Nothing => Verdict::Over,
-        Pick::Source(i) => aimed(sources, dests, n, i, aux, slot.bypass, destination),
+        None => Verdict::Over,
+        Some(i) => aimed(sources, dests, n, i, aux, slot.bypass, destination),
     }
 }
 
@@ -124,71 +118,42 @@ pub fn verdicts(sources: Sources, dests: Destinations, slot: [Slot; SLOTS]) -> [
 {
     let over = Verdict::Over;
     let mut out = [over; SLOTS];
-    let mut n = 0;
-    while n < SLOTS {
+    for n in 0..SLOTS {
         let s = slot[n];
         let v = verdict(sources, dests, n, s);
         out[n] = v;
-        n += 1;
     }
     out
-}
-
-// the candidates so far, and the verdict's where it is one
-fn with_candidate(list: Candidates, v: Verdict) -> Candidates
-    ensures { result ≡ candidate_added list v }
-{
-    match v {
-        Verdict::Over => list,
-        Verdict::LeftOut(_) => list,
-        Verdict::Taken(c) => state_filled::add_candidate(list, c),
-    }
 }
 
 // the candidates, in slot order
-pub fn candidates(verdict: [Verdict; SLOTS]) -> Candidates
-    ensures { result ≡ candidates_of (taken_of verdict) }
+pub fn candidates(verdict: &[Verdict; SLOTS]) -> List<Candidate>
+    ensures { result.items ≡ taken_of verdict.now }
 {
-    let mut out = state_filled::no_candidates();
-    let mut i = 0;
-    while i < SLOTS {
-        let v = verdict[i];
-        let next = with_candidate(out, v);
-        out = next;
-        i += 1;
+    let mut out = List::new();
+    for v in verdict {
+        if let Verdict::Taken(c) = v {
+            state_filled::add(&mut out, *c);
+        }
     }
     out
 }
 
-// the slots left out so far, and slot n where it is
-fn with_skipped(list: Skips, n: usize, v: Verdict) -> Skips
-    requires { n < slots }
-    ensures { result ≡ skip_added list n v }
-{
-    match v {
-        Verdict::Over => list,
-        Verdict::LeftOut(reason) => state_filled::add_skip(
-            list,
-            Skipped {
-                slot: n as u8,
-                reason,
-            },
-        ),
-        Verdict::Taken(_) => list,
-    }
-}
-
 // the slots left out, with their reasons, in slot order
-pub fn skips(verdict: [Verdict; SLOTS]) -> Skips
-    ensures { result ≡ skips_of (left_out_from 0 verdict) }
+pub fn skips(verdict: &[Verdict; SLOTS]) -> List<Skipped>
+    ensures { result.items ≡ left_out_from 0 verdict.now }
 {
-    let mut out = state_filled::no_skips();
-    let mut n = 0;
-    while n < SLOTS {
-        let v = verdict[n];
-        let next = with_skipped(out, n, v);
-        out = next;
-        n += 1;
+    let mut out = List::new();
+    for n in 0..SLOTS {
+        if let Verdict::LeftOut(reason) = verdict[n] {
+            state_filled::add(
+                &mut out,
+                Skipped {
+                    slot: n as u8,
+                    reason,
+                },
+            );
+        }
     }
     out
 }

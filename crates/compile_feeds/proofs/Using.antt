@@ -4,7 +4,6 @@ use mathlib.Core.Logic.{◌⊎◌, inl, inr}
 use mathlib.Core.Bool.{Bool, true, false}
 use mathlib.Core.List.{List, [], ◌∷◌, ◌++◌, map, append-nil, map-append}
 use Prim.Native.Nat.{ℕ, zero, suc, ◌+◌, ◌≤◌, ◌<◌}
-use native.Mathlib.Nat.{min-le_right}
 use native.Mathlib.Omega.{arith}
 use native.Mathlib.Numerals.{add-one}
 use lib.ListN.{length, length-append, length-map}
@@ -17,14 +16,10 @@ use Rattle.state.specs.declared.Used.{Used}
 use Rattle.state.specs.declared.Sources.{Sources}
 use Rattle.state.specs.declared.Destinations.{Destinations}
 use Rattle.state.specs.Registry.{dest_count, dest_at}
-use Rattle.state_filled.specs.declared.Candidates.{Candidates}
-use Rattle.state_filled.specs.declared.UsedDests.{UsedDests}
-use Rattle.state_filled.specs.Filled.{candidates_in, used_dests_of, with_used}
-use Rattle.state_filled.proofs.Laws.{used_dests-more}
+use Rattle.state_filled.specs.Filled.{added}
+use Rattle.state_filled.proofs.Laws.{added-more}
 use Rattle.model.specs.Feeds.{named, used_as, used_in}
 use Rattle.model.proofs.InUse.{named-most}
-use Rattle.compile_feeds.specs.Added.{used_added}
-use Rattle.state_filled.proofs.Stored.{stored-length}
 
 -- ---- one more of k, k + 1, ..
 
@@ -42,7 +37,7 @@ keep_append p (x ∷ l) m = go (which (p x)) (keep_append p l m)
     go (inr t) ih = rw (t, ih)
 
 -- those below d that pass
-abbrev up_to : (ℕ → Bool) → ℕ → List ℕ
+abbrev pub up_to : (ℕ → Bool) → ℕ → List ℕ
 up_to p d = keep p (up_from 0 d)
 
 module _ (p : ℕ → Bool) (d : ℕ) where
@@ -60,46 +55,23 @@ module _ (p : ℕ → Bool) (d : ℕ) where
 
 -- ---- those in use
 
-abbrev used_by : Sources → Destinations → List Candidate → ℕ → Used
+abbrev pub used_by : Sources → Destinations → List Candidate → ℕ → Used
 used_by ss ds cs d = used_as ss cs d (dest_at ds d)
 
--- those below d
-abbrev pub Using : Sources → Destinations → List Candidate → ℕ → UsedDests → Type 0
-Using ss ds cs d o = o ≡ used_dests_of (map (used_by ss ds cs) (up_to (named cs) d))
+module _ (ss : Sources) (ds : Destinations) (cs : List Candidate) (d : ℕ) where
+  abbrev below : List Used
+  below = map (used_by ss ds cs) (up_to (named cs) d)
 
-module _ (ss : Sources) (ds : Destinations) (cs : List Candidate) (most : length cs ≤ slots) (d : ℕ) where
-  room : named cs d ≡ true → length (map (used_by ss ds cs) (up_to (named cs) d)) < slots
-  room t =
+  room : length cs ≤ slots → named cs d ≡ true → length below < slots
+  room most t =
       let once : Distinct (up_from 0 (d + 1)) = ascending-distinct (up_from 0 (d + 1)) (up_from-ascending 0 (d + 1)) in
       let longer : length (up_to (named cs) (d + 1)) ≡ length (up_to (named cs) d) + 1 =
       ap length (up-passed (named cs) d t) ∙ length-append (up_to (named cs) d) (d ∷ []) in
       rw (length-map (up_to (named cs) d) (used_by ss ds cs)) (omega (arith, named-most cs (up_from 0 (d + 1)) once))
 
-  module _ (o q : UsedDests) (p : Using ss ds cs d o) (r : q ≡ used_added o ss cs d (dest_at ds d)) where
-    added : named cs d ≡ true → q ≡ with_used o (used_by ss ds cs d)
-    unfolding used_added
-    added t = r ∙ rw t
+  pub using-more : length cs ≤ slots → named cs d ≡ true → added below (used_by ss ds cs d) ≡ map (used_by ss ds cs) (up_to (named cs) (d + 1))
+  using-more most t =
+      added-more below (used_by ss ds cs d) (room most t) ∙ rw (up-passed (named cs) d t, map-append)
 
-    kept : named cs d ≡ false → q ≡ o
-    unfolding used_added
-    kept t = r ∙ rw t
-
-    pub using-next : Using ss ds cs (d + 1) q
-    using-next = go (which (named cs d))
-      where
-        go : (named cs d ≡ true) ⊎ (named cs d ≡ false) → Using ss ds cs (d + 1) q
-        go (inl t) =
-            added t
-            ∙ ap (λ (b : UsedDests). with_used b (used_by ss ds cs d)) p
-            ∙ used_dests-more (map (used_by ss ds cs) (up_to (named cs) d)) (used_by ss ds cs d) (room t)
-            ∙ rw (up-passed (named cs) d t, map-append)
-        go (inr t) = kept t ∙ p ∙ rw (up-failed (named cs) d t)
-
-module _ (ss : Sources) (ds : Destinations) (cs : List Candidate) where
-  pub using-all : (d : ℕ) (o : UsedDests) → Using ss ds cs d o → d ≡ dest_count ds → o ≡ used_dests_of (used_in ss ds cs)
-  using-all d o p h = p ∙ rw h
-
--- an array holds no more than it has room for
-pub candidates-most : (a : Candidates) → length a.at ≡ slots → length (candidates_in a) ≤ slots
-unfolding candidates_in
-candidates-most a e = rw (stored-length a.at a.count e) (min-le_right a.count slots)
+  pub using-same : named cs d ≡ false → below ≡ map (used_by ss ds cs) (up_to (named cs) (d + 1))
+  using-same t = rw (up-failed (named cs) d t)

@@ -1,20 +1,16 @@
--- A feeder of a thing, and the later of two (program.rs 317-326: the last one written stands). Definitions only.
-use Rattle.std.specs.Prelude.{◌≡◌, refl, true, false, cond}
-use Rattle.state.specs.declared.Base.{Base}
+-- The last feeder of a thing, worked out (program.rs 317-326: the last one written stands). Examples only.
+use Rattle.std.specs.Prelude.{◌≡◌, refl, true, false, [], ◌∷◌}
+use Rattle.state.specs.declared.Base.TheVariants as B
 use Rattle.state.specs.declared.Used.{Used}
-use Rattle.state.specs.declared.Feeder.{Feeder}
-use Rattle.state.specs.declared.Feeder.TheVariants as E
-use Rattle.model.specs.Feeds.{same_thing}
+use Rattle.state.specs.Fed.{by_dest}
+use Rattle.model.specs.Feeds.{last_feeder}
 
-abbrev pub feeds : Base → Used → Feeder
-feeds t u = cond (same_thing u.feed t) (E.Dest u.dest u.voice) E.Nothing
+of_thing_1 : Used
+of_thing_1 = record { dest = 5; voice = false; audio = false; feed = B.Held 1 }
 
-abbrev pub last_of : Feeder → Feeder → Feeder
-last_of a E.Nothing = a
-last_of a (E.Dest d v) = E.Dest d v
-
-second-stands : last_of (E.Dest 3 true) (E.Dest 5 false) ≡ E.Dest 5 false
+second-stands : last_feeder (B.Held 1) (by_dest 3 true) (of_thing_1 ∷ []) ≡ by_dest 5 false
+unfolding of_thing_1
 second-stands = refl
 
-first-where-no-second : last_of (E.Dest 3 true) E.Nothing ≡ E.Dest 3 true
+first-where-no-second : last_feeder (B.Held 1) (by_dest 3 true) [] ≡ by_dest 3 true
 first-where-no-second = refl

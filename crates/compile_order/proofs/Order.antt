@@ -10,10 +10,9 @@ use Rattle.feed.proofs.Tests.{which}
 use Rattle.state.specs.declared.Used.{Used}
 use Rattle.state.specs.declared.Wiring.{Wiring}
 use Rattle.state.specs.Registry.{dest_at}
-use Rattle.state_filled.specs.Filled.{numbers_of}
 use Rattle.model.specs.Wiring.{candidates}
 use Rattle.model.specs.Feeds.{in_use, is_audio, used_as, used_dests, readers_of, reads, controls, audios, plan_order}
-use Rattle.compile_order.specs.Marks.{is_rated, rated_as, order_in, plan_order_in}
+use Rattle.compile_order.specs.Marks.{is_rated, rated_as, order_in}
 
 -- those of one rate among numbered ones
 rated-keep : (g : ℕ → Used) (p : ℕ → Bool) (b : Bool) (l : List ℕ) → ((d : ℕ) → (g d).dest ≡ d) → ((d : ℕ) → is_rated b (g d) ≡ p d) → rated_as b (map g l) ≡ keep p l
@@ -37,10 +36,3 @@ module _ (w : Wiring) where
   pub order-in-is : order_in (used_dests w) (readers_of w) ≡ plan_order w
   unfolding order_in plan_order reads
   order-in-is = rw (rated-controls, rated-audios)
-
-  -- what `plan_order` gives of a wiring
-  pub plan-order-is : plan_order_in (used_dests w) (readers_of w) ≡ record { control = length (controls w); order = numbers_of (plan_order w) }
-  unfolding plan_order_in
-  plan-order-is =
-      ap (λ (l : List ℕ). record { control = length l; order = numbers_of (order_in (used_dests w) (readers_of w)) }) rated-controls
-      ∙ ap (λ (l : List ℕ). record { control = length (controls w); order = numbers_of l }) order-in-is

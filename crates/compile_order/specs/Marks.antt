@@ -5,12 +5,9 @@ use Rattle.config.specs.Sizes.{slots}
 use Rattle.feed.specs.Order.{order}
 use Rattle.state.specs.declared.Used.{Used}
 use Rattle.state.specs.declared.Base.TheVariants as B
-use Rattle.state.specs.declared.AuxSource.TheVariants as U
-use Rattle.state.specs.declared.Feeder.TheVariants as E
+use Rattle.std.specs.Prelude.{None}
+use Rattle.state.specs.Fed.{by_dest}
 use Rattle.state.specs.declared.Reader.{Reader}
-use Rattle.state_filled.specs.declared.Numbers.{Numbers}
-use Rattle.state_filled.specs.Filled.{numbers_of, with_number}
-use Rattle.compile_order.specs.declared.PlanOrder.{PlanOrder}
 use Rattle.model.specs.Feeds.{any_reads}
 
 -- whether u is audio, or is not
@@ -23,9 +20,6 @@ abbrev pub rated_as : Bool → List Used → List ℕ
 rated_as b [] = []
 rated_as b (u ∷ us) = let later = rated_as b us in cond (is_rated b u) (u.dest ∷ later) later
 
-unfoldable pub rated_added : Numbers → Bool → Used → Numbers
-rated_added l b u = cond (is_rated b u) (with_number l u.dest) l
-
 -- a is read by a route of b, which is another destination (program.rs 364)
 abbrev pub feeds_other : List Reader → ℕ → ℕ → Bool
 feeds_other rs a b = not (eqb a b) && any_reads a b rs
@@ -36,19 +30,10 @@ mark_at rs l p =
     ltb (p / slots) (length l) &&
     (ltb (p % slots) (length l) && feeds_other rs (get_or l (p / slots) 0) (get_or l (p % slots) 0))
 
--- numbers put behind those in the array, one after the other
-abbrev pub numbers_added : Numbers → List ℕ → Numbers
-numbers_added a [] = a
-numbers_added a (x ∷ xs) = numbers_added (with_number a x) xs
-
 -- control destinations by the feeders that are read, then audio destinations
 unfoldable pub order_in : List Used → List Reader → List ℕ
 unfolding order
 order_in us rs = order (λ a b. any_reads a b rs) (rated_as false us) ++ rated_as true us
-
-unfoldable pub plan_order_in : List Used → List Reader → PlanOrder
-unfolding order_in numbers_of
-plan_order_in us rs = record { control = length (rated_as false us); order = numbers_of (order_in us rs) }
 
 -- ---- worked out: 5 and 7 are control, 6 is audio; a route of 5 reads 7, and one of 6 reads 5
 
@@ -58,11 +43,11 @@ destination d audio = record { dest = d; voice = false; audio = audio; feed = B.
 abbrev reader_of : ℕ → ℕ → Reader
 reader_of d a =
     record {
-      candidate = record { slot = 0; source = 0; aux = U.Nothing; dest = d };
-      source = E.Dest a false;
-      aux = E.Nothing;
-      amount = E.Nothing;
-      output = E.Nothing;
+      candidate = record { slot = 0; source = 0; aux = None; dest = d };
+      source = by_dest a false;
+      aux = None;
+      amount = None;
+      output = None;
     }
 
 abbrev three : List Used
@@ -100,6 +85,5 @@ the-order : order_in three two ≡ 7 ∷ 5 ∷ 6 ∷ []
 unfolding order_in
 the-order = refl
 
-two-are-control : (plan_order_in three two).control ≡ 2
-unfolding plan_order_in
+two-are-control : length (rated_as false three) ≡ 2
 two-are-control = refl

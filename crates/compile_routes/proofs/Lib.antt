@@ -1,5 +1,3 @@
 pub mod Tests
-pub mod Find
 pub mod Parts
-pub mod Turns
 pub mod Lists

@@ -1,5 +1,5 @@
--- Routes put behind those in an array that holds a list are the array that holds the longer list. Assumes nothing.
-use mathlib.Core.Path.{◌≡◌, ap, ◌∙◌}
+-- Routes put behind those in a list, where there is room for all. Assumes nothing.
+use mathlib.Core.Path.{◌≡◌, refl, ap, ◌∙◌}
 use mathlib.Core.Bool.{Bool}
 use mathlib.Core.List.{List, [], ◌∷◌, ◌++◌, append-nil}
 use Prim.Native.Nat.{ℕ, ◌+◌, ◌≤◌}
@@ -12,18 +12,22 @@ use Rattle.state.specs.declared.Sources.{Sources}
 use Rattle.state.specs.declared.Slot.{Slot}
 use Rattle.state.specs.declared.Reader.{Reader}
 use Rattle.state.specs.declared.Route.{Route}
-use Rattle.state_filled.specs.declared.Routes.{Routes}
-use Rattle.state_filled.specs.Filled.{routes_of}
-use Rattle.state_filled.proofs.Laws.{routes-more}
+use Rattle.state_filled.specs.Filled.{added}
+use Rattle.state_filled.proofs.Laws.{added-more}
 use Rattle.model.specs.Routes.{no_slot, route_in, routes_in}
 use Rattle.compile_routes.specs.Added.{routes_added}
 
-pub routes-added : (l xs : List Route) → length l + length xs ≤ slots → routes_added (routes_of l) xs ≡ routes_of (l ++ xs)
+pub routes-added : (l xs : List Route) → length l + length xs ≤ slots → routes_added l xs ≡ l ++ xs
 routes-added l [] h = rw append-nil
 routes-added l (x ∷ xs) h =
-    ap (λ (a : Routes). routes_added a xs) (routes-more l x (omega arith))
+    ap (λ (a : List Route). routes_added a xs) (added-more l x (omega arith))
     ∙ routes-added (l ++ x ∷ []) xs (simp length-append (omega arith))
-    ∙ ap routes_of (append_snoc l x xs)
+    ∙ append_snoc l x xs
+
+-- one list after the other
+pub added-append : (a xs ys : List Route) → routes_added a (xs ++ ys) ≡ routes_added (routes_added a xs) ys
+added-append a [] ys = refl
+added-append a (x ∷ xs) ys = added-append (added a x) xs ys
 
 -- as many routes as readers
 pub routes-length : (rate : Float) (ss : Sources) (os : List ℕ) (sl : List Slot) (dv : Bool) (rs : List Reader)

@@ -5,7 +5,6 @@
 ghost use Rattle.std.specs.Prelude.{◌≡◌, not, ◌&&◌, ◌||◌, ◌≤◌, eqb, length, get_or};
 ghost use Rattle.config.specs.Sizes.{slots};
 ghost use Rattle.feed.specs.Numbers.{index_of};
-ghost use Rattle.state_filled.specs.Filled.{numbers_in, readers_in};
 ghost use Rattle.model.specs.Feeds.{is_voice};
 ghost use Rattle.model.specs.Routes.{linked, voice_gain, live_gain, unfed_read, read_by, voice_read, slew_for};
 ghost use Rattle.model.specs.Routes.{free_slew};
@@ -13,42 +12,39 @@ ghost use Rattle.model.specs.Routes.{is_bipolar, input_by, aux_by, voice_aux, no
 ghost use Rattle.model.specs.Routes.{no_slot};
 ghost use Rattle.model.specs.Routes.{simple_route, route_by, route_in, routes_in};
 ghost use Rattle.model.specs.Plans.{readers_into};
-ghost use Rattle.compile_routes.specs.Added.{routes_added, route_added, one_if};
+ghost use Rattle.compile_routes.specs.Added.{routes_added};
 
 use config::SLOTS;
 use curve_table::Curve;
 use state::{
-    Aim, Aux, AuxSource, Feeder, Gain, Input, Kind, Pick, Polarity, Range, Read, Reader, Route,
-    Scope, Slew, Slot, Source, Sources,
+    FedBy, Gain, Input, Kind, Polarity, Range, Read, Reader, Route, Scope, Slew, Slot, Source,
+    Sources,
 };
-use state_filled::{Numbers, Readers, Routes};
+use state_filled::List;
 
 // ---- links
 
 // the place of d in the order; the order's length where it is not there
-fn place(order: Numbers, d: u16) -> u8
-    ensures { result ≡ index_of d (numbers_in order) }
+fn place(order: &List<u16>, d: u16) -> u8
+    ensures { result ≡ index_of d order.now.items }
 {
-    let n = state_filled::held(order.count);
-    let mut i = 0;
-    while i < n {
-        if order.at[i] == d {
+    for i in 0..order.len() {
+        if order[i] == d {
             return i as u8;
         }
-        i += 1;
     }
-    i as u8
+    order.len() as u8
 }
 
 // a thing at the plan of its feeder, or live
-fn link(order: Numbers, feeder: Feeder) -> Gain
-    ensures { result ≡ linked (numbers_in order) feeder }
+fn link(order: &List<u16>, feeder: Option<FedBy>) -> Gain
+    ensures { result ≡ linked order.now.items feeder }
 {
     match feeder {
-        Feeder::Nothing => Gain::Live,
-        Feeder::Dest { dest, voice } => Gain::Fed {
-            plan: place(order, dest),
-            voice,
+        None => Gain::Live,
+        Some(f) => Gain::Fed {
+            plan: place(order, f.dest),
+            voice: f.voice,
         },
     }
 }
@@ -76,19 +72,13 @@ fn live_gain(gain: Gain) -> bool
 fn is_voice(scope: Scope) -> bool
     ensures { result ≡ is_voice scope }
 {
-    match scope {
-        Scope::Voice => true,
-        Scope::Global => false,
-    }
+    scope == Scope::Voice
 }
 
 fn is_bipolar(range: Range) -> bool
     ensures { result ≡ is_bipolar range }
 {
-    match range {
-        Range::Unipolar => false,
-        Range::Bipolar => true,
-    }
+    range == Range::Bipolar
 }
 
 // where a source that nothing feeds is read
@@ -136,30 +126,27 @@ fn voice_read(read: Read) -> bool
 }
 
 // the slew of a curve, where a rise or a fall is above 0
-fn slew_for(rate: f32, curve: Curve) -> Slew
+fn slew_for(rate: f32, curve: Curve) -> Option<Slew>
     ensures { result ≡ slew_for rate curve }
 {
     let seconds = curve_table::seconds_of(curve);
-    let limit = Slew::Limit {
+    let limit = Slew {
         up: slew::rate_per_sample(seconds.rise, rate),
         down: slew::rate_per_sample(seconds.fall, rate),
     };
     if 0.0 < seconds.rise {
-        return limit;
+        return Some(limit);
     }
     if 0.0 < seconds.fall {
-        return limit;
+        return Some(limit);
     }
-    Slew::Free
+    None
 }
 
-fn free_slew(slew: Slew) -> bool
+fn free_slew(slew: Option<Slew>) -> bool
     ensures { result ≡ free_slew slew }
 {
-    match slew {
-        Slew::Free => true,
-        Slew::Limit { up: _, down: _ } => false,
-    }
+    slew.is_none()
 }
 
 // source i, read by the link, over the curve
@@ -177,12 +164,18 @@ fn input(rate: f32, source: Source, i: u8, link: Gain, curve: Curve) -> Input
     }
 }
 
-fn aux_input(rate: f32, sources: Sources, aux: AuxSource, link: Gain, curve: Curve) -> Aux
+fn aux_input(
+    rate: f32,
+    sources: Sources,
+    aux: Option<u8>,
+    link: Gain,
+    curve: Curve,
+) -> Option<Input>
     ensures { result ≡ aux_by rate sources aux link curve }
 {
     match aux {
-        AuxSource::Nothing => Aux::Missing,
-        AuxSource::Source(i) => Aux::With(input(
+        None => None,
+        Some(i) => Some(input(
             rate,
             state_registry::source_at(sources, i as usize),
             i,
@@ -199,22 +192,19 @@ fn voice_input(input: Input) -> bool
     voice_read(read)
 }
 
-fn voice_aux(aux: Aux) -> bool
+fn voice_aux(aux: Option<Input>) -> bool
     ensures { result ≡ voice_aux aux }
 {
     match aux {
-        Aux::Missing => false,
-        Aux::With(i) => voice_input(i),
+        None => false,
+        Some(i) => voice_input(i),
     }
 }
 
-fn no_aux(aux: Aux) -> bool
+fn no_aux(aux: Option<Input>) -> bool
     ensures { result ≡ no_aux aux }
 {
-    match aux {
-        Aux::Missing => true,
-        Aux::With(_) => false,
-    }
+    aux.is_none()
 }
 
 // ---- a route
@@ -222,10 +212,7 @@ fn no_aux(aux: Aux) -> bool
 fn two_way(polarity: Polarity) -> bool
     ensures { result ≡ two_way polarity }
 {
-    match polarity {
-        Polarity::Unipolar => false,
-        Polarity::Bipolar => true,
-    }
+    polarity == Polarity::Bipolar
 }
 
 fn scale_of(source: bool, slot: bool) -> f32
@@ -249,7 +236,7 @@ fn offset_of(source: bool, slot: bool) -> f32
 }
 
 // no aux, and the slot's live gains
-fn is_live(aux: Aux, amount: Gain, output: Gain) -> bool
+fn is_live(aux: Option<Input>, amount: Gain, output: Gain) -> bool
     ensures { result ≡ no_aux aux && (live_gain amount && live_gain output) }
 {
     if !no_aux(aux) {
@@ -262,7 +249,7 @@ fn is_live(aux: Aux, amount: Gain, output: Gain) -> bool
 }
 
 // uncurved, unslewed and live
-fn is_straight(input: Input, aux: Aux, amount: Gain, output: Gain) -> bool
+fn is_straight(input: Input, aux: Option<Input>, amount: Gain, output: Gain) -> bool
     ensures { result ≡ not input.table
         && (free_slew input.slew && (no_aux aux && (live_gain amount && live_gain output))) }
 {
@@ -277,7 +264,7 @@ fn is_straight(input: Input, aux: Aux, amount: Gain, output: Gain) -> bool
 }
 
 // whether a route is plain
-fn is_simple(dest_voice: bool, input: Input, aux: Aux, amount: Gain, output: Gain) -> bool
+fn is_simple(dest_voice: bool, input: Input, aux: Option<Input>, amount: Gain, output: Gain) -> bool
     ensures { result ≡ simple_route dest_voice input aux amount output }
 {
     if !voice_input(input) {
@@ -290,7 +277,7 @@ fn is_simple(dest_voice: bool, input: Input, aux: Aux, amount: Gain, output: Gai
 }
 
 // whether any part of a route is per voice
-fn any_voice(input: Input, aux: Aux, amount: Gain, output: Gain) -> bool
+fn any_voice(input: Input, aux: Option<Input>, amount: Gain, output: Gain) -> bool
     ensures { result ≡ voice_read input.read || (voice_aux aux || (voice_gain amount || voice_gain output)) }
 {
     if voice_input(input) {
@@ -311,7 +298,7 @@ fn route_by(
     slot: Slot,
     dest_voice: bool,
     input: Input,
-    aux: Aux,
+    aux: Option<Input>,
     amount: Gain,
     output: Gain,
 ) -> Route
@@ -338,12 +325,12 @@ fn route_by(
 fn route_in(
     rate: f32,
     sources: Sources,
-    order: Numbers,
+    order: &List<u16>,
     slot: Slot,
     dest_voice: bool,
     r: Reader,
 ) -> Route
-    ensures { result ≡ route_in rate sources (numbers_in order) slot dest_voice r }
+    ensures { result ≡ route_in rate sources order.now.items slot dest_voice r }
 {
     let c = r.candidate;
     let source_feeder = r.source;
@@ -375,12 +362,12 @@ fn no_slot() -> Slot
 {
     let nan = state_registry::not_a_number();
     Slot {
-        source: Pick::Nothing,
+        source: None,
         source_curve: Curve::Linear,
         amount: nan,
         polarity: Polarity::Unipolar,
-        destination: Aim::Nothing,
-        aux: Pick::Nothing,
+        destination: None,
+        aux: None,
         aux_invert: false,
         aux_curve: Curve::Linear,
         output: nan,
@@ -399,76 +386,38 @@ fn slot_at(slot: [Slot; SLOTS], n: usize) -> Slot
 
 // ---- the routes of a destination
 
-// the routes so far, and the reader's where it is d's
-fn with_route(
-    list: Routes,
-    rate: f32,
-    sources: Sources,
-    order: Numbers,
-    slot: [Slot; SLOTS],
-    dest_voice: bool,
-    d: u16,
-    r: Reader,
-) -> Routes
-    ensures { result ≡ route_added list rate sources (numbers_in order) slot dest_voice d r }
-{
-    let c = r.candidate;
-    if c.dest != d {
-        return list;
-    }
-    let s = slot_at(slot, c.slot as usize);
-    state_filled::add_route(list, route_in(rate, sources, order, s, dest_voice, r))
-}
-
 // the routes so far, and those of d
-pub fn with_routes(
-    list: Routes,
+pub fn add_routes(
+    list: &mut List<Route>,
     rate: f32,
     sources: Sources,
-    order: Numbers,
+    order: &List<u16>,
     slot: [Slot; SLOTS],
     dest_voice: bool,
     d: u16,
-    readers: Readers,
-) -> Routes
-    ensures { result ≡ routes_added list
-        (routes_in rate sources (numbers_in order) slot dest_voice (readers_into d (readers_in readers))) }
+    readers: &[Reader],
+)
+    ensures { list.new.items ≡ routes_added list.old.items
+        (routes_in rate sources order.now.items slot dest_voice (readers_into d readers.now)) }
 {
-    let n = state_filled::held(readers.count);
-    let mut out = list;
-    let mut i = 0;
-    while i < n {
-        let r = readers.at[i];
-        let next = with_route(out, rate, sources, order, slot, dest_voice, d, r);
-        out = next;
-        i += 1;
+    for r in readers {
+        if r.candidate.dest == d {
+            let s = slot_at(slot, r.candidate.slot as usize);
+            state_filled::add(list, route_in(rate, sources, order, s, dest_voice, *r));
+        }
     }
-    out
-}
-
-// 1 where the reader is d's
-fn one_if(r: Reader, d: u16) -> usize
-    ensures { (result ≡ one_if (eqb r.candidate.dest d)) × (result ≤ 1) }
-{
-    let c = r.candidate;
-    if c.dest == d {
-        return 1;
-    }
-    0
 }
 
 // how many routes d has
-pub fn route_count(readers: Readers, d: u16) -> usize
-    ensures { (result ≡ length (readers_into d (readers_in readers))) × (result ≤ slots) }
+pub fn route_count(readers: &List<Reader>, d: u16) -> usize
+    ensures count { result ≡ length (readers_into d readers.now.items) }
+    ensures most { result ≤ slots }
 {
-    let n = state_filled::held(readers.count);
     let mut count = 0;
-    let mut i = 0;
-    while i < n {
-        let x = readers.at[i];
-        let one = one_if(x, d);
-        count += one;
-        i += 1;
+    for r in readers.as_slice() {
+        if r.candidate.dest == d {
+            count += 1;
+        }
     }
     count
 }

@@ -2,8 +2,11 @@
 #![tactic(auto)]
 
 ghost use Rattle.std.specs.Prelude.{◌≡◌, min};
+ghost use Rattle.refusal.specs.Refusal.{code_of};
 ghost use Rattle.config.specs.Sizes.{most_voices, most_frames, lane_stride, most_chunks};
 ghost use Rattle.config.specs.Configuration.{config_code};
+
+use refusal::Refusal;
 
 pub const SLOTS: usize = 64;
 
@@ -29,23 +32,13 @@ pub struct Config {
     pub voices: usize,
 }
 
-// The number by which a configuration is refused, or 0.
-pub fn code(sample_rate: f32, max_frames: usize, voices: usize) -> u8
-    ensures { result ≡ config_code sample_rate max_frames voices }
+// Whether a configuration is accepted, or why it is not.
+pub fn check(sample_rate: f32, max_frames: usize, voices: usize) -> Result<(), Refusal>
+    ensures { code_of result ≡ config_code sample_rate max_frames voices }
 {
-    if !number::is_finite(sample_rate) {
-        return 6;
-    }
-    if sample_rate <= 0.0 {
-        return 13;
-    }
-    if FRAMES < max_frames {
-        return 13;
-    }
-    if VOICES < voices {
-        return 13;
-    }
-    0
+    refusal::when(!number::is_finite(sample_rate), Refusal::Number)?;
+    let too_many = FRAMES < max_frames || VOICES < voices;
+    refusal::when(sample_rate <= 0.0 || too_many, Refusal::Range)
 }
 
 // Voices rounded up to a multiple of the lanes, at least that many; voices beyond the most count as the most.

@@ -220,6 +220,7 @@ fn turns_of(
     let gains = leads.gains;
     let offsets = leads.offsets;
     let mut d = 0usize;
+    // Not a for: a turn sweeps as many plans as it can, so d moves on by more than one.
     while d < work.control {
         let k = plan_turning::turns(
             values, round, plan, d, &own, &starts, &steps, &gains, &offsets, samples,

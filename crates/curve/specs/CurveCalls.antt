@@ -1,11 +1,35 @@
 -- The public calls on tables (document 01, Curve table). Definitions only.
-use Rattle.std.specs.Prelude.{cond, List, eqb, Float}
+use Rattle.std.specs.Prelude.{cond, List, ℕ, eqb, Float, Result, Ok, Err}
+use Rattle.refusal.specs.Refusal.{number_of}
+use Rattle.refusal.specs.declared.Refusal.{Refusal}
 use Rattle.number.specs.Number.{zero32}
 use Rattle.curve_table.specs.Curve.{curve_code, seconds_of}
 use Rattle.curve_table.specs.declared.Curve.{Curve}
 use Rattle.curve_table.specs.Table.{lookup_of, table_code, tabulated, diagonal_at}
-use Rattle.curve.specs.declared.Looked.{Looked}
-use Rattle.curve.specs.declared.Slewed.{Slewed}
+use Rattle.curve_table.specs.declared.Seconds.{Seconds}
+
+-- a number by which the call is refused, or 0 and the table's value
+pub record Looked : Type 0 where
+  pub code : ℕ
+  pub value : Float
+
+-- a number by which the call is refused, or 0 and the curve's seconds
+pub record Slewed : Type 0 where
+  pub code : ℕ
+  pub seconds : Seconds
+
+-- what an answer says: its number and its value, 0 on a refusal
+abbrev pub looked_said : Result Float Refusal → Looked
+looked_said (Ok x) = record { code = 0; value = x }
+looked_said (Err r) = record { code = number_of r; value = zero32 }
+
+abbrev pub no_seconds : Seconds
+no_seconds = record { rise = zero32; fall = zero32 }
+
+-- what an answer says: its number and its seconds, 0 on a refusal
+abbrev pub slewed_said : Result Seconds Refusal → Slewed
+slewed_said (Ok s) = record { code = 0; seconds = s }
+slewed_said (Err r) = record { code = number_of r; seconds = no_seconds }
 
 -- The table at x (curve.rs 139-145). Only the table's rows apply, 6 and 15: the position is exempt from row 6, since
 -- document 01 says what a NaN position yields. A refusal has the value 0.

@@ -1,15 +1,14 @@
 -- Laws of tables that proofs cite in place of the definitions' text.
 use mathlib.Core.Path.{◌≡◌, refl, ap, ◌∙◌}
-use mathlib.Core.Bool.{true, false, ◌&&◌}
+use mathlib.Core.Bool.{Bool, true, false, ◌&&◌}
 use mathlib.Core.List.Memᴰ
 use mathlib.Core.List.{List, [], ◌∷◌}
 use Prim.Native.Nat.{ℕ, zero, suc, ◌+◌, ◌≤◌, ◌<◌}
-use native.Mathlib.Numerals.{add-one}
 use native.Mathlib.Omega.{arith}
-use lib.ListN.{length, get_or, drop}
-use lib.Seq.{drop-cons, drop-length}
+use lib.ListN.{length, get_or}
 use lib.Ieee.{Float, nan, lt, add, sub, mul, of_int, to_unsigned}
 use borrow.Author.Tests.{not-false, eqb-true}
+use Rattle.std.specs.List.{list_all}
 use Rattle.list.proofs.Bools.{and-true-l, and_true_r}
 use Rattle.refusal.proofs.Laws.{judged-accepted}
 use Rattle.number.specs.Number.{zero32, one32, clamp_to, finite}
@@ -65,14 +64,11 @@ lookup-reads-two t v x a b = rw (a, b)
 
 -- ---- what a table may hold
 
--- the numbers from i on, by the number at i and those after it
-pub allowed-from : (t : List Float) (i : ℕ) → i < length t → all_allowed (drop i t) ≡ (allowed (get_or t i nan) && all_allowed (drop (i + 1) t))
+-- the library's test of each number
+pub allowed-all : (t : List Float) → list_all allowed t ≡ all_allowed t
 unfolding all_allowed
-allowed-from t i h = rw (add-one, drop-cons t i nan)
-
-pub allowed-past : (t : List Float) (i : ℕ) → i ≡ length t → all_allowed (drop i t) ≡ true
-unfolding all_allowed
-allowed-past t i h = rw (h, drop-length)
+allowed-all [] = refl
+allowed-all (x ∷ t) = ap (λ (r : Bool). allowed x && r) (allowed-all t)
 
 -- each number that is allowed is finite
 pub allowed-finite : (x : Float) → allowed x ≡ true → finite x ≡ true

@@ -2,9 +2,12 @@
 #![tactic(auto)]
 
 ghost use Rattle.std.specs.Prelude.{◌≡◌, ◌≤◌, length};
+ghost use Rattle.refusal.specs.Refusal.{code_of};
 ghost use Rattle.curve_table.specs.Table.{points, position, cell_at, cell_of, lookup_of, allowed, all_allowed};
 ghost use Rattle.curve_table.specs.Table.{table_code};
 ghost use Rattle.curve_table.specs.Curve.{is_linear, seconds_of, seconds_finite, curve_code};
+
+use refusal::Refusal;
 
 // the numbers of a table, and its last cell
 pub const POINTS: usize = 513;
@@ -12,6 +15,7 @@ pub const POINTS: usize = 513;
 pub const LAST_CELL: usize = 511;
 
 // a slot's curve: linear, or a table, whose numbers stand elsewhere, with its seconds
+// No Option: linear is a curve of its own, as in the Rust.
 #[derive(Clone, Copy)]
 pub enum Curve {
     Linear,
@@ -70,27 +74,15 @@ pub fn is_allowed(x: f32) -> bool
 pub fn numbers_allowed(table: &[f32]) -> bool
     ensures { result ≡ all_allowed table.now }
 {
-    let mut i = 0;
-    while i < table.len() {
-        if !is_allowed(table[i]) {
-            return false;
-        }
-        i += 1;
-    }
-    true
+    table.iter().all(|x| is_allowed(*x))
 }
 
-// the number by which a lent table is refused, or 0
-pub fn table_code(table: &[f32]) -> u8
-    ensures { result ≡ table_code table.now }
+// whether a lent table is accepted, or why it is not
+pub fn check_table(table: &[f32]) -> Result<(), Refusal>
+    ensures { code_of result ≡ table_code table.now }
 {
-    if !numbers_allowed(table) {
-        return 6;
-    }
-    if table.len() != POINTS {
-        return 15;
-    }
-    0
+    refusal::when(!numbers_allowed(table), Refusal::Number)?;
+    refusal::when(table.len() != POINTS, Refusal::Length)
 }
 
 pub fn is_linear(curve: Curve) -> bool
@@ -128,9 +120,9 @@ pub fn seconds_finite(curve: Curve) -> bool
     }
 }
 
-// the number by which a curve is refused, or 0
-pub fn curve_code(curve: Curve) -> u8
-    ensures { result ≡ curve_code curve }
+// whether a curve is accepted, or why it is not
+pub fn check_curve(curve: Curve) -> Result<(), Refusal>
+    ensures { code_of result ≡ curve_code curve }
 {
-    if seconds_finite(curve) { 0 } else { 6 }
+    refusal::when(!seconds_finite(curve), Refusal::Number)
 }

@@ -9,23 +9,38 @@ use native.Mathlib.Omega.{arith}
 use lib.Dec.{leb, ltb, eqb}
 use lib.ListN.{length, get_or, take, drop, length-drop}
 use lib.Seq.{drop-cons, drop-length, take_all}
-use borrow.Author.Tests.{leb-true, lt-ltb, ne_eqb, not-true, not-false}
+use borrow.Author.Tests.{leb-true, ltb-false, lt-ltb, ne_eqb, not-true, not-false}
+use Rattle.std.proofs.Common.{Some, None}
+use Rattle.std.specs.List.{position_or_len}
+use Rattle.std.specs.Option.{unwrap_or}
 use Rattle.list.proofs.Bools.{and-true-l}
 use Rattle.decimal.specs.Decimal.{lead, is_digit, run, past, number, is_sign, unsigned, rest, has_point, after_point, mark, power, digits, exponent, is_power, is_decimal}
 
-pub run-from : (w : List ℕ) (i : ℕ) → i < length w → run (drop i w) ≡ cond (is_digit (get_or w i 0)) (suc (run (drop (i + 1) w))) 0
+-- how many digits a row begins with, in std's words
+run-is : (w : List ℕ) → position_or_len (λ b. not (is_digit b)) w ≡ run w
 unfolding run
-run-from w i h = rw (add-one, drop-cons w i 0)
+run-is [] = refl
+run-is (b ∷ w) = go (is_digit b) (run-is w)
+  where
+    go : (d : Bool) → position_or_len (λ b. not (is_digit b)) w ≡ run w → cond (not (not d)) (1 + position_or_len (λ b. not (is_digit b)) w) 0 ≡ cond d (suc (run w)) 0
+    go true e = omega (arith, e)
+    go false e = refl
 
-pub run_past : (w : List ℕ) (i : ℕ) → i ≡ length w → run (drop i w) ≡ 0
+pub run-within : (w : List ℕ) → run w ≤ length w
 unfolding run
-run_past w i h = rw (h, drop-length)
+run-within [] = omega arith
+run-within (b ∷ w) = go (is_digit b) (run-within w)
+  where
+    go : (d : Bool) → run w ≤ length w → cond d (suc (run w)) 0 ≤ suc (length w)
+    go true h = omega arith
+    go false h = omega arith
 
-pub run-digit : (w : List ℕ) (i : ℕ) → i < length w → is_digit (get_or w i 0) ≡ true → run (drop i w) ≡ suc (run (drop (i + 1) w))
-run-digit w i h d = run-from w i h ∙ ap (λ (b : Bool). cond b (suc (run (drop (i + 1) w))) 0) d
-
-pub run-other : (w : List ℕ) (i : ℕ) → i < length w → is_digit (get_or w i 0) ≡ false → run (drop i w) ≡ 0
-run-other w i h d = run-from w i h ∙ ap (λ (b : Bool). cond b (suc (run (drop (i + 1) w))) 0) d
+pub run-or_all : (w : List ℕ) → unwrap_or (cond (ltb (position_or_len (λ b. not (is_digit b)) w) (length w)) (Some (position_or_len (λ b. not (is_digit b)) w)) None) (length w) ≡ run w
+run-or_all w = rw (run-is w) (go (ltb (run w) (length w)) refl (run-within w))
+  where
+    go : (t : Bool) → ltb (run w) (length w) ≡ t → run w ≤ length w → unwrap_or (cond t (Some (run w)) None) (length w) ≡ run w
+    go true e k = refl
+    go false e k = let h = ltb-false (run w) (length w) e in omega (arith, h, k)
 
 number-from : (w : List ℕ) (v i : ℕ) → i < length w → number v (drop i w) ≡ cond (is_digit (get_or w i 0)) (number (v * 10 + (get_or w i 0 - 48)) (drop (i + 1) w)) v
 unfolding number
@@ -72,18 +87,6 @@ pub none_after : (w : List ℕ) → length w ≤ 0 → w ≡ drop 1 w
 none_after [] h = refl
 none_after (b ∷ w) h = absurd (omega arith)
 
-pub unsigned-plus : (w : List ℕ) → lead w ≡ 43 → unsigned w ≡ drop 1 w
-unfolding unsigned is_sign
-unsigned-plus w h = rw h
-
-pub unsigned-minus : (w : List ℕ) → lead w ≡ 45 → unsigned w ≡ drop 1 w
-unfolding unsigned is_sign
-unsigned-minus w h = rw h
-
-pub unsigned-none : (w : List ℕ) → (lead w ≡ 43 → ⊥) → (lead w ≡ 45 → ⊥) → unsigned w ≡ w
-unfolding unsigned is_sign
-unsigned-none w h k = rw (ne_eqb (lead w) 43 h, ne_eqb (lead w) 45 k)
-
 pub after_point-yes : (w : List ℕ) → has_point w ≡ true → after_point w ≡ drop 1 (rest w)
 unfolding after_point
 after_point-yes w h = rw h
@@ -111,17 +114,6 @@ pub exponent-is : (w p u : List ℕ) (r : ℕ) → p ≡ power w → u ≡ unsig
 unfolding exponent
 exponent-is w p u r P U R = R ∙ ap (λ (l : List ℕ). min (number 0 l) 1000) (U ∙ ap unsigned P)
 
--- ---- the grammar
-pub no-digits : (n r : ℕ) → n ≡ 0 → false ≡ (ltb 0 n && eqb r n)
-no-digits n r h = rw h
-
-pub some-digits : (n r k : ℕ) → (n ≡ 0 → ⊥) → k ≡ r → eqb k n ≡ (ltb 0 n && eqb r n)
-some-digits n r k h e = rw (lt-ltb 0 n (pos_of n h), e)
-  where
-    pos_of : (n : ℕ) → (n ≡ 0 → ⊥) → 0 < n
-    pos_of zero h = absurd (h refl)
-    pos_of (suc n) h = omega arith
-
 pub power-not : (w m : List ℕ) (b : ℕ) (l : Bool) → m ≡ mark w → b ≡ lead m → l ≡ (eqb b 101 || eqb b 69) → not l ≡ true → false ≡ is_power w
 unfolding is_power
 power-not w m b l M B L h =
@@ -134,12 +126,6 @@ unfolding is_power
 power-is w m p u b l r M B L h P U R =
     let e : (eqb (lead (mark w)) 101 || eqb (lead (mark w)) 69) ≡ true = sym (ap (λ (z : ℕ). eqb z 101 || eqb z 69) (B ∙ ap lead M)) ∙ sym L ∙ not-false l h in
     rw e (R ∙ ap (λ (z : List ℕ). ltb 0 (length z) && eqb (run z) (length z)) (U ∙ ap unsigned P))
-
-pub digit-first : (a b k : ℕ) → k ≡ a → 0 < k → true ≡ ltb 0 (a + b)
-digit-first a b k e h = sym (lt-ltb 0 (a + b) (omega arith))
-
-pub digit-second : (a b k j : ℕ) → k ≡ a → k ≤ 0 → j ≡ b → ltb 0 j ≡ ltb 0 (a + b)
-digit-second a b k j e h f = let g : j ≡ a + b = omega arith in ap (ltb 0) g
 
 pub decimal-none : (w : List ℕ) (d : Bool) → d ≡ ltb 0 (run (unsigned w) + run (after_point w)) → not d ≡ true → false ≡ is_decimal w
 unfolding is_decimal

@@ -6,11 +6,12 @@
 -- below 10 ^ 18 (18 digits, zeros in front not counted, zeros at the end counted), the exponent's digits are a number
 -- below 1000, and, where m is not 0, p is not below -17 and, from p = 0 on, m * 10 ^ p is below 2 ^ 64. Any other
 -- decimal is outside. Where m is 0 it is a zero, of the decimal's sign.
-use Rattle.std.specs.Prelude.{Bool, true, false, cond, ◌&&◌, ◌||◌, List, [], ◌∷◌, ℕ, suc, ◌+◌, ◌-◌, ◌*◌, ◌^◌, leb, ltb}
-use Rattle.std.specs.Prelude.{eqb, pos, length, get_or, drop, Float}
+use Rattle.std.specs.Prelude.{Bool, cond, ◌&&◌, ◌||◌, List, [], ◌∷◌, ℕ, suc, ◌+◌, ◌-◌, ◌*◌, ◌^◌, leb, ltb}
+use Rattle.std.specs.Prelude.{eqb, pos, length, get_or, drop, Float, Result, Ok, Err}
 use Rattle.std.specs.Float.{fin, binary32}
-use Rattle.std.specs.Float.Ieee.{of_bits, round}
-use Rattle.decimal.specs.declared.DecimalWord.{DecimalWord}
+use Rattle.std.specs.Float.Ieee.{round}
+use Rattle.decimal.specs.declared.Unread.{Unread}
+use Rattle.decimal.specs.declared.Unread.TheVariants.{Outside, Other}
 
 -- ---- rows of bytes
 
@@ -90,31 +91,31 @@ is_decimal w =
 
 -- ---- the value
 
-unfoldable pub given : Float → DecimalWord
-given x = record { good = true; outside = false; value = x }
+abbrev pub given : Float → Result Float Unread
+given x = Ok x
 
-unfoldable pub beyond : DecimalWord
-beyond = record { good = false; outside = true; value = of_bits binary32 0 }
+abbrev pub beyond : Result Float Unread
+beyond = Err Outside
 
-unfoldable pub none : DecimalWord
-none = record { good = false; outside = false; value = of_bits binary32 0 }
+abbrev pub none : Result Float Unread
+none = Err Other
 
 -- m * 10 ^ p and m / 10 ^ k, with the sign s
-unfoldable pub times : Bool → ℕ → ℕ → DecimalWord
+unfoldable pub times : Bool → ℕ → ℕ → Result Float Unread
 times s m p = cond (ltb (m * 10 ^ p) (2 ^ 64)) (given (round binary32 s (m * 10 ^ p) 1)) beyond
 
-unfoldable pub over : Bool → ℕ → ℕ → DecimalWord
+unfoldable pub over : Bool → ℕ → ℕ → Result Float Unread
 over s m k = cond (leb k 17) (given (round binary32 s m (10 ^ k))) beyond
 
 -- m * 10 ^ up / 10 ^ down
-unfoldable pub scaled : Bool → ℕ → ℕ → ℕ → DecimalWord
+unfoldable pub scaled : Bool → ℕ → ℕ → ℕ → Result Float Unread
 scaled s m up down =
     cond (eqb m 0) (given (fin s 0 (pos 0))) (cond (leb down up) (times s m (up - down)) (over s m (down - up)))
 
 -- the digits m, of which f stand after the point, times 10 ^ e, or 10 ^ -e where n says so
-unfoldable pub valued : Bool → ℕ → ℕ → Bool → ℕ → DecimalWord
+unfoldable pub valued : Bool → ℕ → ℕ → Bool → ℕ → Result Float Unread
 valued s m f n e = cond (ltb m (10 ^ 18) && ltb e 1000) (cond n (scaled s m 0 (f + e)) (scaled s m e f)) beyond
 
-unfoldable pub decimal_of : List ℕ → DecimalWord
+unfoldable pub decimal_of : List ℕ → Result Float Unread
 decimal_of w =
     cond (is_decimal w) (valued (is_minus w) (digits w) (run (after_point w)) (is_minus (power w)) (exponent w)) none

@@ -17,7 +17,7 @@ values :
     × (decimal_of (48 ∷ 46 ∷ 49 ∷ []) ≡ given (fin false 13421773 (negsuc 26)))
     × (decimal_of (48 ∷ 46 ∷ 51 ∷ []) ≡ given (fin false 5033165 (negsuc 23)))
 unfolding lead is_digit run past number is_sign is_minus unsigned rest has_point after_point mark power digits exponent
-    is_power is_decimal given beyond none times over scaled valued decimal_of round
+    is_power is_decimal times over scaled valued decimal_of round
 values = (refl, refl, refl, refl, refl, refl, refl, refl)
 
 -- 16777217.0, 16777219.0, 8388608.5, 8388609.5: each a tie, to the even one
@@ -27,7 +27,7 @@ ties :
     × (decimal_of (56 ∷ 51 ∷ 56 ∷ 56 ∷ 54 ∷ 48 ∷ 56 ∷ 46 ∷ 53 ∷ []) ≡ given (fin false 1 (pos 23)))
     × (decimal_of (56 ∷ 51 ∷ 56 ∷ 56 ∷ 54 ∷ 48 ∷ 57 ∷ 46 ∷ 53 ∷ []) ≡ given (fin false 4194305 (pos 1)))
 unfolding lead is_digit run past number is_sign is_minus unsigned rest has_point after_point mark power digits exponent
-    is_power is_decimal given beyond none times over scaled valued decimal_of round
+    is_power is_decimal times over scaled valued decimal_of round
 ties = (refl, refl, refl, refl)
 
 -- 1e-10, 999999999e10, 0.30000000000000004, -0e5
@@ -39,7 +39,7 @@ far :
     ≡ given (fin false 5033165 (negsuc 23)))
     × (decimal_of (45 ∷ 48 ∷ 101 ∷ 53 ∷ []) ≡ given (fin true 0 (pos 0)))
 unfolding lead is_digit run past number is_sign is_minus unsigned rest has_point after_point mark power digits exponent
-    is_power is_decimal given beyond none times over scaled valued decimal_of round
+    is_power is_decimal times over scaled valued decimal_of round
 far = (refl, refl, refl, refl)
 
 -- 1e20, 1e-18, 1234567890123456789., 1e1000: decimals, but not read
@@ -50,7 +50,7 @@ outside :
     ∷ []) ≡ beyond)
     × (decimal_of (49 ∷ 101 ∷ 49 ∷ 48 ∷ 48 ∷ 48 ∷ []) ≡ beyond)
 unfolding lead is_digit run past number is_sign is_minus unsigned rest has_point after_point mark power digits exponent
-    is_power is_decimal given beyond none times over scaled valued decimal_of round
+    is_power is_decimal times over scaled valued decimal_of round
 outside = (refl, refl, refl, refl)
 
 -- 12, ., e5, 1e, 1e+, 1.2., -, 1.5x: no decimals
@@ -64,5 +64,5 @@ others :
     × (decimal_of (45 ∷ []) ≡ none)
     × (decimal_of (49 ∷ 46 ∷ 53 ∷ 120 ∷ []) ≡ none)
 unfolding lead is_digit run past number is_sign is_minus unsigned rest has_point after_point mark power digits exponent
-    is_power is_decimal given beyond none times over scaled valued decimal_of round
+    is_power is_decimal times over scaled valued decimal_of round
 others = (refl, refl, refl, refl, refl, refl, refl, refl)

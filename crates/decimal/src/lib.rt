@@ -9,44 +9,15 @@ ghost use Rattle.std.specs.Float.Ieee.{neg, round};
 ghost use Rattle.std.specs.Float.Ieee.Nearest.{closest};
 ghost use Rattle.decimal.specs.Decimal.{lead, is_digit, run, past, number, is_sign, is_minus, unsigned, rest};
 ghost use Rattle.decimal.specs.Decimal.{has_point, after_point, mark, power, digits, exponent, is_power, is_decimal};
-ghost use Rattle.decimal.specs.Decimal.{given, beyond, none, times, over, scaled, valued, decimal_of};
+ghost use Rattle.decimal.specs.Decimal.{times, over, scaled, valued, decimal_of};
 
-// What a word is as a decimal: a value, or a decimal outside what is read, or none.
+// Why a word has no value.
 #[derive(Clone, Copy)]
-pub struct DecimalWord {
-    pub good: bool,
-    pub outside: bool,
-    pub value: f32,
-}
-
-fn given(x: f32) -> DecimalWord
-    ensures { result ≡ given x }
-{
-    DecimalWord {
-        good: true,
-        outside: false,
-        value: x,
-    }
-}
-
-fn beyond() -> DecimalWord
-    ensures { result ≡ beyond }
-{
-    DecimalWord {
-        good: false,
-        outside: true,
-        value: 0.0,
-    }
-}
-
-fn none() -> DecimalWord
-    ensures { result ≡ none }
-{
-    DecimalWord {
-        good: false,
-        outside: false,
-        value: 0.0,
-    }
+pub enum Unread {
+    // a decimal outside what is read
+    Outside,
+    // no decimal
+    Other,
 }
 
 // ---- rows of bytes
@@ -55,30 +26,20 @@ fn none() -> DecimalWord
 fn lead(s: &[u8]) -> u8
     ensures { result ≡ lead s.now }
 {
-    if 0 < s.len() { s[0] } else { 0 }
+    s.first().copied().unwrap_or(0)
 }
 
 fn is_digit(b: u8) -> bool
     ensures { result ≡ is_digit b }
 {
-    if b < 48 {
-        return false;
-    }
-    b < 58
+    b.is_ascii_digit()
 }
 
 // how many digits a row begins with
 fn run(s: &[u8]) -> usize
     ensures { (result ≡ run s.now) × (result ≤ length s.now) }
 {
-    let mut i = 0usize;
-    while i < s.len() {
-        if !is_digit(s[i]) {
-            return i;
-        }
-        i += 1usize;
-    }
-    s.len()
+    s.iter().position(|&b| !is_digit(b)).unwrap_or(s.len())
 }
 
 // what follows them
@@ -94,7 +55,7 @@ fn more(v: u64, b: u8, most: u64) -> u64
     requires { (v ≤ most) × (most ≤ 10 ^ 18) × (is_digit b ≡ true) }
     ensures { result ≡ min (v * 10 + (b - 48)) most }
 {
-    let next = v * 10 + (b - 48) as u64;
+    let next = v * 10 + (b - b'0') as u64;
     if most < next { most } else { next }
 }
 
@@ -104,13 +65,11 @@ fn number(v: u64, s: &[u8], most: u64) -> u64
     ensures { result ≡ min (number v s.now) most }
 {
     let mut value = v;
-    let mut i = 0usize;
-    while i < s.len() {
-        if !is_digit(s[i]) {
+    for &b in s {
+        if !is_digit(b) {
             return value;
         }
-        value = more(value, s[i], most);
-        i += 1usize;
+        value = more(value, b, most);
     }
     value
 }
@@ -118,28 +77,32 @@ fn number(v: u64, s: &[u8], most: u64) -> u64
 fn is_minus(s: &[u8]) -> bool
     ensures { result ≡ is_minus s.now }
 {
-    lead(s) == 45
+    lead(s) == b'-'
 }
 
 // without the first byte
 fn tail(s: &[u8]) -> &[u8]
     ensures { result.now ≡ drop 1 s.now }
 {
-    if 0 < s.len() { &s[1..] } else { s }
+    match s {
+        [_, rest @ ..] => rest,
+        [] => s,
+    }
+}
+
+// + or -
+#[tactic(auto, unfolding(crate::specs::Decimal::is_sign))]
+fn is_sign(b: u8) -> bool
+    ensures { result ≡ is_sign b }
+{
+    matches!(b, b'+' | b'-')
 }
 
 // without a sign in front
 fn unsigned(s: &[u8]) -> &[u8]
     ensures { result.now ≡ unsigned s.now }
 {
-    let b = lead(s);
-    if b == 43 {
-        return tail(s);
-    }
-    if b == 45 {
-        return tail(s);
-    }
-    s
+    if is_sign(lead(s)) { tail(s) } else { s }
 }
 
 // ---- the parts of a word
@@ -154,7 +117,7 @@ fn rest(w: &[u8]) -> &[u8]
 fn has_point(w: &[u8]) -> bool
     ensures { result ≡ has_point w.now }
 {
-    lead(rest(w)) == 46
+    lead(rest(w)) == b'.'
 }
 
 // what follows the point
@@ -205,56 +168,35 @@ fn exponent(w: &[u8]) -> u64
 fn is_letter(b: u8) -> bool
     ensures { result ≡ (eqb b 101 || eqb b 69) }
 {
-    if b == 101 {
-        return true;
-    }
-    b == 69
+    matches!(b, b'e' | b'E')
 }
 
 // at least one digit, and nothing else
 fn all_digits(s: &[u8]) -> bool
     ensures { result ≡ (ltb 0 (length s.now) && eqb (run s.now) (length s.now)) }
 {
-    if s.len() == 0 {
-        return false;
-    }
-    run(s) == s.len()
+    !s.is_empty() && run(s) == s.len()
 }
 
 // whether what follows the digits is an exponent
 fn is_power(w: &[u8]) -> bool
     ensures { result ≡ is_power w.now }
 {
-    if !is_letter(lead(mark(w))) {
-        return false;
-    }
-    all_digits(unsigned(power(w)))
+    is_letter(lead(mark(w))) && all_digits(unsigned(power(w)))
 }
 
 // whether there is a digit before the point or after it
 fn has_digit(w: &[u8]) -> bool
     ensures { result ≡ ltb 0 (run (unsigned w.now) + run (after_point w.now)) }
 {
-    if 0 < run(unsigned(w)) {
-        return true;
-    }
-    0 < run(after_point(w))
+    0 < run(unsigned(w)) || 0 < run(after_point(w))
 }
 
 // whether it is written as a decimal
 fn is_decimal(w: &[u8]) -> bool
     ensures { result ≡ is_decimal w.now }
 {
-    if !has_digit(w) {
-        return false;
-    }
-    if is_power(w) {
-        return true;
-    }
-    if !has_point(w) {
-        return false;
-    }
-    mark(w).len() == 0
+    has_digit(w) && (is_power(w) || has_point(w) && mark(w).is_empty())
 }
 
 // ---- the value
@@ -266,32 +208,24 @@ fn signed(s: bool, x: f32) -> f32
 }
 
 // m * 10^p
-fn times(s: bool, m: u64, p: u64) -> DecimalWord
+fn times(s: bool, m: u64, p: u64) -> Result<f32, Unread>
     ensures { result ≡ times s m p }
 {
     let mut n = m;
-    let mut i = 0u64;
-    while i < p {
-        if 1844674407370955161 < n {
-            return beyond();
-        }
-        n = n * 10;
-        i += 1u64;
+    for i in 0..p {
+        let Some(next) = n.checked_mul(10) else {
+            return Err(Unread::Outside);
+        };
+        n = next;
     }
-    given(signed(s, number::nearest_u64_to_f32(n)))
+    Ok(signed(s, number::nearest_u64_to_f32(n)))
 }
 
 fn power_of_five(k: u64) -> u64
     requires { k ≤ 17 }
     ensures { result ≡ 5 ^ k }
 {
-    let mut n = 1u64;
-    let mut i = 0u64;
-    while i < k {
-        n = n * 5;
-        i += 1u64;
-    }
-    n
+    5u64.pow(k as u32)
 }
 
 // A number doubled some times.
@@ -308,6 +242,7 @@ fn widened(m: u64, d: u64) -> Doubled
 {
     let mut value = d;
     let mut steps = 0u64;
+    // Not a for: it doubles.
     while value <= m / 16777216 {
         value = value * 2;
         steps += 1u64;
@@ -322,6 +257,7 @@ fn raised(m: u64, b: u64) -> Doubled
 {
     let mut value = m;
     let mut steps = 0u64;
+    // Not a for: it doubles.
     while value < b * 8388608 {
         value = value * 2;
         steps += 1u64;
@@ -358,22 +294,22 @@ fn quotient(m: u64, k: u64) -> f32
 }
 
 // m / 10^k, where that is read
-fn over(s: bool, m: u64, k: u64) -> DecimalWord
+fn over(s: bool, m: u64, k: u64) -> Result<f32, Unread>
     requires { (0 < m) × (m < 10 ^ 18) }
     ensures { result ≡ over s m k }
 {
     if 17 < k {
-        return beyond();
+        return Err(Unread::Outside);
     }
-    given(signed(s, quotient(m, k)))
+    Ok(signed(s, quotient(m, k)))
 }
 
-fn scaled(s: bool, m: u64, up: u64, down: u64) -> DecimalWord
+fn scaled(s: bool, m: u64, up: u64, down: u64) -> Result<f32, Unread>
     requires { m < 10 ^ 18 }
     ensures { result ≡ scaled s m up down }
 {
     if m == 0 {
-        return given(signed(s, 0.0));
+        return Ok(signed(s, 0.0));
     }
     if down <= up {
         return times(s, m, up - down);
@@ -382,7 +318,7 @@ fn scaled(s: bool, m: u64, up: u64, down: u64) -> DecimalWord
 }
 
 // the digits m, of which f stand after the point, times 10^-e
-fn shrunk(s: bool, m: u64, f: u64, e: u64) -> DecimalWord
+fn shrunk(s: bool, m: u64, f: u64, e: u64) -> Result<f32, Unread>
     requires { (m < 10 ^ 18) × (e < 1000) }
     ensures { result ≡ scaled s m 0 (f + e) }
 {
@@ -392,14 +328,11 @@ fn shrunk(s: bool, m: u64, f: u64, e: u64) -> DecimalWord
     scaled(s, m, 0, f + e)
 }
 
-fn valued(s: bool, m: u64, f: u64, n: bool, e: u64) -> DecimalWord
+fn valued(s: bool, m: u64, f: u64, n: bool, e: u64) -> Result<f32, Unread>
     ensures { result ≡ valued s m f n e }
 {
-    if 999999999999999999 < m {
-        return beyond();
-    }
-    if 999 < e {
-        return beyond();
+    if 999999999999999999 < m || 999 < e {
+        return Err(Unread::Outside);
     }
     if n {
         return shrunk(s, m, f, e);
@@ -408,11 +341,11 @@ fn valued(s: bool, m: u64, f: u64, n: bool, e: u64) -> DecimalWord
 }
 
 // the number that a decimal stands for
-pub fn read(w: &[u8]) -> DecimalWord
+pub fn read(w: &[u8]) -> Result<f32, Unread>
     ensures { result ≡ decimal_of w.now }
 {
     if !is_decimal(w) {
-        return none();
+        return Err(Unread::Other);
     }
     let places = run(after_point(w)) as u64;
     valued(

@@ -9,6 +9,7 @@ use native.Mathlib.Nat.{le_of_suc-le-suc, not-suc-le-zero}
 use native.Mathlib.Omega.{arith}
 use borrow.Author.Tests.{eq-eqb, eqb-true}
 use lib.Dec.{eqb}
+use Rattle.std.specs.Prelude.{Option, Some, None, is_some}
 use lib.ListN.{length, get_or, get_or-append, length-append}
 use lib.Seq.{get_or-append_seam}
 use Rattle.config.specs.Sizes.{most_destinations}
@@ -16,15 +17,12 @@ use Rattle.state.specs.declared.Target.{Target}
 use Rattle.state.specs.declared.Target.TheVariants.{Param, LfoBus}
 use Rattle.state.specs.declared.Dest.{Dest}
 use Rattle.state.specs.declared.Destinations.{Destinations}
-use Rattle.dest.specs.declared.DestEntry.TheVariants as E
-use Rattle.dest.specs.declared.DestFound.{DestFound}
-use Rattle.dest.specs.declared.DestFound.TheVariants as D
 use Rattle.state.specs.Registry.{dest_count, same_target}
-use Rattle.dest.specs.Entries.{registered, get_dest, find_from, find_target, find_dest, is_found}
+use Rattle.dest.specs.Entries.{registered, get_dest, find_from, find_target, find_dest}
 use Rattle.dest.specs.Adding.{add_code, appended}
 use Rattle.list.proofs.Bools.{which, and-true-l, and_true_r}
 use Rattle.dest.proofs.Search.{registered-length, entry-at}
-use Rattle.dest.proofs.Added.{accepted, appended-registered}
+use Rattle.dest.proofs.Adding.{accepted, appended-registered}
 
 -- ---- the test of targets is their equality
 
@@ -52,50 +50,50 @@ without-cons : (t : Target) (l : List Dest) (d : Dest) (n : ℕ) (x : Dest) → 
 without-cons t l d n x y f zero h = y
 without-cons t l d n x y f (suc k) h = f k (le_of_suc-le-suc h)
 
-found_from : (t : Target) (l : List Dest) (d : Dest) (n m : ℕ) → find_from n t l ≡ D.At m → (i : ℕ) × (m ≡ n + i) × FirstAt t l d i
+found_from : (t : Target) (l : List Dest) (d : Dest) (n m : ℕ) → find_from n t l ≡ Some m → (i : ℕ) × (m ≡ n + i) × FirstAt t l d i
 unfolding find_from
 found_from t [] d n m e = let z : ◌≡◌ {A = ℕ} 0 1 = cc in absurd (omega arith)
 found_from t (x ∷ l) d n m e =
     ⊎_elim
     (λ y.
-    let q : D.At n ≡ D.At m = rw y at e in
+    let q : Some n ≡ Some m = rw y at e in
     let p : m ≡ n = cc in
     (0, omega arith, record { below = omega arith; here = y; before = λ k h. absurd (not-suc-le-zero h) }))
     (λ y.
-    let q : find_from (suc n) t l ≡ D.At m = rw y at e in
+    let q : find_from (suc n) t l ≡ Some m = rw y at e in
     let r = found_from t l d (suc n) m q in
     (suc r.0, omega (arith, r.1), record { below = omega (arith, r.2.below); here = r.2.here; before = without-cons t l d r.0 x y r.2.before }))
     (which (same_target x.target t))
 
-pub found_first : (t : Target) (l : List Dest) (d : Dest) (n : ℕ) → find_target t l ≡ D.At n → FirstAt t l d n
+pub found_first : (t : Target) (l : List Dest) (d : Dest) (n : ℕ) → find_target t l ≡ Some n → FirstAt t l d n
 unfolding find_target
 found_first t l d n e =
     let r = found_from t l d 0 n e in
     let q : r.0 ≡ n = omega (arith, r.1) in
     rw q at r.2
 
-none_from : (t : Target) (l : List Dest) (d : Dest) (n : ℕ) → is_found (find_from n t l) ≡ false → (k : ℕ) → k < length l → same_target (get_or l k d).target t ≡ false
+none_from : (t : Target) (l : List Dest) (d : Dest) (n : ℕ) → is_some (find_from n t l) ≡ false → (k : ℕ) → k < length l → same_target (get_or l k d).target t ≡ false
 unfolding find_from
 none_from t [] d n e k h = absurd (not-suc-le-zero h)
 none_from t (x ∷ l) d n e k h =
     ⊎_elim
     (λ y. let q : true ≡ false = rw y at e in let z : ◌≡◌ {A = ℕ} 0 1 = cc in absurd (omega arith))
     (λ y.
-    let q : is_found (find_from (suc n) t l) ≡ false = rw y at e in
+    let q : is_some (find_from (suc n) t l) ≡ false = rw y at e in
     without-cons t l d (length l) x y (none_from t l d (suc n) q) k h)
     (which (same_target x.target t))
 
-pub found_none : (t : Target) (l : List Dest) (d : Dest) → find_target t l ≡ D.Nothing → (k : ℕ) → k < length l → same_target (get_or l k d).target t ≡ false
+pub found_none : (t : Target) (l : List Dest) (d : Dest) → find_target t l ≡ None → (k : ℕ) → k < length l → same_target (get_or l k d).target t ≡ false
 unfolding find_target
-found_none t l d e = none_from t l d 0 (ap is_found e)
+found_none t l d e = none_from t l d 0 (ap is_some e)
 
 -- ---- a list and more entries after it
 
-past : (b : Bool) (n : ℕ) (r s q : DestFound) → (is_found r ≡ false → s ≡ q) → is_found (cond b (D.At n) r) ≡ false → cond b (D.At n) s ≡ q
+past : (b : Bool) (n : ℕ) (r s q : Option ℕ) → (is_some r ≡ false → s ≡ q) → is_some (cond b (Some n) r) ≡ false → cond b (Some n) s ≡ q
 past true n r s q f h = let z : ◌≡◌ {A = ℕ} 0 1 = cc in absurd (omega arith)
 past false n r s q f h = f h
 
-pub find-append-none : (t : Target) (l m : List Dest) (n : ℕ) → is_found (find_from n t l) ≡ false → find_from n t (l ++ m) ≡ find_from (n + length l) t m
+pub find-append-none : (t : Target) (l m : List Dest) (n : ℕ) → is_some (find_from n t l) ≡ false → find_from n t (l ++ m) ≡ find_from (n + length l) t m
 unfolding find_from
 find-append-none t [] m n h = let e : n ≡ n + 0 = omega arith in ap (λ (j : ℕ). find_from j t m) e
 find-append-none t (x ∷ l) m n h =
@@ -104,11 +102,11 @@ find-append-none t (x ∷ l) m n h =
     (λ k. find-append-none t l m (suc n) k ∙ ap (λ (j : ℕ). find_from j t m) e)
     h
 
-kept : (b : Bool) (n : ℕ) (r s : DestFound) → (is_found r ≡ true → s ≡ r) → is_found (cond b (D.At n) r) ≡ true → cond b (D.At n) s ≡ cond b (D.At n) r
+kept : (b : Bool) (n : ℕ) (r s : Option ℕ) → (is_some r ≡ true → s ≡ r) → is_some (cond b (Some n) r) ≡ true → cond b (Some n) s ≡ cond b (Some n) r
 kept true n r s f h = refl
 kept false n r s f h = f h
 
-pub find-append-found : (t : Target) (l m : List Dest) (n : ℕ) → is_found (find_from n t l) ≡ true → find_from n t (l ++ m) ≡ find_from n t l
+pub find-append-found : (t : Target) (l m : List Dest) (n : ℕ) → is_some (find_from n t l) ≡ true → find_from n t (l ++ m) ≡ find_from n t l
 unfolding find_from
 find-append-found t [] m n h = let z : ◌≡◌ {A = ℕ} 0 1 = cc in absurd (omega arith)
 find-append-found t (x ∷ l) m n h =
@@ -118,15 +116,15 @@ find-append-found t (x ∷ l) m n h =
 
 module _ (ds : Destinations) (d : Dest) (long : length ds.entry ≡ most_destinations) (ok : add_code ds d ≡ 0) where
   -- it is found at the old count
-  pub added-found : find_dest (appended ds d) d.target ≡ D.At (dest_count ds)
+  pub added-found : find_dest (appended ds d) d.target ≡ Some (dest_count ds)
   unfolding find_dest find_target find_from
   added-found =
       let a = accepted ds d ok in
       rw (appended-registered ds d long a.room, find-append-none d.target (registered ds) (d ∷ []) 0 a.unused, same_self d.target)
-      (let e : 0 + length (registered ds) ≡ dest_count ds = omega (arith, registered-length ds long) in ap D.At e)
+      (let e : 0 + length (registered ds) ≡ dest_count ds = omega (arith, registered-length ds long) in ap Some e)
 
   -- what was found before still is
-  pub added-kept : (t : Target) → is_found (find_dest ds t) ≡ true → find_dest (appended ds d) t ≡ find_dest ds t
+  pub added-kept : (t : Target) → is_some (find_dest ds t) ≡ true → find_dest (appended ds d) t ≡ find_dest ds t
   unfolding find_dest find_target
   added-kept t h =
       rw (appended-registered ds d long (accepted ds d ok).room) (find-append-found t (registered ds) (d ∷ []) 0 h)
@@ -138,12 +136,12 @@ module _ (ds : Destinations) (d : Dest) (long : length ds.entry ≡ most_destina
       let k : i < length (registered ds) = omega (arith, registered-length ds long) in
       rw (appended-registered ds d long (accepted ds d ok).room)
       (entry-at (registered ds ++ (d ∷ [])) i d (omega (arith, length-append (registered ds) (d ∷ [])))
-      ∙ ap E.Entry (get_or-append (registered ds) (d ∷ []) d i k)
+      ∙ ap Some (get_or-append (registered ds) (d ∷ []) d i k)
       ∙ sym (entry-at (registered ds) i d k))
 
-  pub added-at : get_dest (appended ds d) (dest_count ds) ≡ E.Entry d
+  pub added-at : get_dest (appended ds d) (dest_count ds) ≡ Some d
   unfolding get_dest
   added-at =
       rw (appended-registered ds d long (accepted ds d ok).room, sym (registered-length ds long))
       (entry-at (registered ds ++ (d ∷ [])) (length (registered ds)) d (omega (arith, length-append (registered ds) (d ∷ [])))
-      ∙ ap E.Entry (get_or-append_seam (registered ds) d [] d))
+      ∙ ap Some (get_or-append_seam (registered ds) d [] d))

@@ -1,4 +1,4 @@
 pub mod Search
-pub mod Added
+pub mod Adding
 pub mod Found
 pub mod Replies

@@ -1,9 +1,11 @@
 -- Adding a destination (document 01, rows 9 to 12; dest.rs 255-274). Definitions only.
 use Rattle.std.specs.Prelude.{◌≡◌, refl, Bool, true, false, cond, not, ◌||◌, List, [], ◌∷◌, ℕ, ◌+◌, ◌-◌, eqb, leb, pos}
-use Rattle.std.specs.Prelude.{set, Float}
+use Rattle.std.specs.Prelude.{set, Float, is_some, Result, Ok, Err}
 use Rattle.std.specs.Float.{nan, inf, fin}
 use Rattle.std.specs.Float.Ieee.{lt, is_nan}
 use Rattle.refusal.specs.Judge.{Row, ◌when◌, judged, numbered, ascends}
+use Rattle.refusal.specs.Refusal.{number_of}
+use Rattle.refusal.specs.declared.Refusal.{Refusal}
 use Rattle.number.specs.Number.{zero32, one32}
 use Rattle.config.specs.Sizes.{slots, most_destinations}
 use Rattle.state.specs.declared.Target.{Target}
@@ -14,9 +16,9 @@ use Rattle.state.specs.declared.Feed.{Feed}
 use Rattle.state.specs.declared.Feed.TheVariants as F
 use Rattle.state.specs.declared.Dest.{Dest}
 use Rattle.state.specs.declared.Destinations.{Destinations}
-use Rattle.dest.specs.declared.DestAdded.{DestAdded}
+use Rattle.dest.specs.declared.Added.{Added}
 use Rattle.state.specs.Registry.{dest_count}
-use Rattle.dest.specs.Entries.{registered, find_from, find_target, is_found}
+use Rattle.dest.specs.Entries.{registered, find_from, find_target}
 
 -- ---- the rows
 
@@ -35,7 +37,7 @@ bad_slot (F.Output n) = leb slots n
 -- registry is full at 1,024
 abbrev pub add_rows : List Dest → ℕ → Dest → List Row
 add_rows ds count d =
-    9 when is_found (find_target d.target ds)
+    9 when is_some (find_target d.target ds)
     ∷ 10 when bad_bounds d.min d.max
     ∷ 11 when bad_slot d.feed
     ∷ 12 when leb most_destinations count
@@ -54,6 +56,17 @@ ascending ds count d = (refl, refl)
 -- the registry with the entry after those that it has (dest.rs 269-271)
 unfoldable pub appended : Destinations → Dest → Destinations
 appended ds d = record { count = dest_count ds + 1; entry = set ds.entry (dest_count ds) d }
+
+-- a number by which the call is refused, or 0, the entry's number and the registry
+pub record DestAdded : Type 0 where
+  pub code : ℕ
+  pub id : ℕ
+  pub dests : Destinations
+
+-- what an answer says: a refusal leaves the registry as it came, and gives the number 0
+abbrev pub added_said : Destinations → Result Added Refusal → DestAdded
+added_said ds (Ok a) = record { code = 0; id = a.id; dests = a.dests }
+added_said ds (Err r) = record { code = number_of r; id = 0; dests = ds }
 
 -- accepted, the entry's number is the old count; a refusal leaves the registry (dest.rs 255-274)
 unfoldable pub add_dest : Destinations → Dest → DestAdded

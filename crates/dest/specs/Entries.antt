@@ -1,6 +1,7 @@
 -- The registry of destinations: which entries are registered, and how one is found (document 01, Destination entry;
 -- dest.rs 212-217, 276-299). Definitions only.
 use Rattle.std.specs.Prelude.{◌≡◌, refl, Bool, true, false, cond, List, [], ◌∷◌, ℕ, zero, suc, eqb, take, replicate}
+use Rattle.std.specs.Prelude.{Option, Some, None}
 use Rattle.number.specs.Number.{zero32, one32}
 use Rattle.config.specs.Sizes.{most_destinations}
 use Rattle.state.specs.Registry.{dest_count, same_target}
@@ -11,10 +12,6 @@ use Rattle.state.specs.declared.Rate.TheVariants as R
 use Rattle.state.specs.declared.Feed.TheVariants as F
 use Rattle.state.specs.declared.Dest.{Dest}
 use Rattle.state.specs.declared.Destinations.{Destinations}
-use Rattle.dest.specs.declared.DestEntry.{DestEntry}
-use Rattle.dest.specs.declared.DestEntry.TheVariants as E
-use Rattle.dest.specs.declared.DestFound.{DestFound}
-use Rattle.dest.specs.declared.DestFound.TheVariants as D
 
 -- ---- the registry
 
@@ -37,33 +34,28 @@ no_dests = record { count = 0; entry = replicate most_destinations blank_dest }
 -- ---- by number
 
 -- entry i of a list, if it has one
-unfoldable pub entry_at : List Dest → ℕ → DestEntry
-entry_at [] i = E.Nothing
-entry_at (d ∷ ds) zero = E.Entry d
+unfoldable pub entry_at : List Dest → ℕ → Option Dest
+entry_at [] i = None
+entry_at (d ∷ ds) zero = Some d
 entry_at (d ∷ ds) (suc i) = entry_at ds i
 
 -- dest.rs 290-292
-unfoldable pub get_dest : Destinations → ℕ → DestEntry
+unfoldable pub get_dest : Destinations → ℕ → Option Dest
 get_dest ds i = entry_at (registered ds) i
 
 -- ---- by target
 
 -- the first entry that has the target, where the list's first entry is number n
-unfoldable pub find_from : ℕ → Target → List Dest → DestFound
-find_from n t [] = D.Nothing
-find_from n t (d ∷ ds) = cond (same_target d.target t) (D.At n) (find_from (suc n) t ds)
+unfoldable pub find_from : ℕ → Target → List Dest → Option ℕ
+find_from n t [] = None
+find_from n t (d ∷ ds) = cond (same_target d.target t) (Some n) (find_from (suc n) t ds)
 
-unfoldable pub find_target : Target → List Dest → DestFound
+unfoldable pub find_target : Target → List Dest → Option ℕ
 find_target t ds = find_from 0 t ds
 
 -- the lowest number of a registered entry that has the target (dest.rs 296-298)
-unfoldable pub find_dest : Destinations → Target → DestFound
+unfoldable pub find_dest : Destinations → Target → Option ℕ
 find_dest ds t = find_target t (registered ds)
-
--- whether something was found
-abbrev pub is_found : DestFound → Bool
-is_found D.Nothing = false
-is_found (D.At n) = true
 
 -- ---- examples
 
@@ -81,12 +73,12 @@ some : List Dest
 some = on (Param 7) ∷ on (LfoBus 1 2) ∷ on (LfoBus 1 3) ∷ on (Param 7) ∷ []
 
 -- the first of two; a bus by both its numbers; one that is not there
-finds : (find_target (Param 7) some ≡ D.At 0) × (find_target (LfoBus 1 3) some ≡ D.At 2)
-    × (find_target (LfoBus 2 2) some ≡ D.Nothing) × (find_target (Param 7) [] ≡ D.Nothing)
+finds : (find_target (Param 7) some ≡ Some 0) × (find_target (LfoBus 1 3) some ≡ Some 2)
+    × (find_target (LfoBus 2 2) some ≡ None) × (find_target (Param 7) [] ≡ None)
 unfolding find_target find_from some on
 finds = (refl, refl, refl, refl)
 
-entries : (entry_at some 2 ≡ E.Entry (on (LfoBus 1 3))) × (entry_at some 4 ≡ E.Nothing)
+entries : (entry_at some 2 ≡ Some (on (LfoBus 1 3))) × (entry_at some 4 ≡ None)
 unfolding entry_at some
 entries = (refl, refl)
 

@@ -1,26 +1,22 @@
 -- What the answers on a registry of destinations say: number and values of each case (document 01, The form to use in
 -- each place). Definitions only.
-use Rattle.std.specs.Prelude.{cond, List, [], ◌∷◌, ℕ, suc, take, drop}
+use Rattle.std.specs.Prelude.{cond, List, [], ◌∷◌, ℕ, suc, take, drop, Option, Some, None}
 use Rattle.reply.specs.Reply.{Reply, accepts, by_rows}
 use Rattle.state.specs.Registry.{same_target}
 use Rattle.state.specs.declared.Target.{Target}
 use Rattle.state.specs.declared.Dest.{Dest}
 use Rattle.state.specs.declared.Destinations.{Destinations}
-use Rattle.dest.specs.declared.DestEntry.{DestEntry}
-use Rattle.dest.specs.declared.DestEntry.TheVariants as E
-use Rattle.dest.specs.declared.DestFound.{DestFound}
-use Rattle.dest.specs.declared.DestFound.TheVariants as D
 use Rattle.dest.specs.Entries.{registered}
 
 -- ---- each case
 
-abbrev pub entry_reply : DestEntry → Reply Dest
-entry_reply E.Nothing = accepts []
-entry_reply (E.Entry d) = accepts (d ∷ [])
+abbrev pub entry_reply : Option Dest → Reply Dest
+entry_reply None = accepts []
+entry_reply (Some d) = accepts (d ∷ [])
 
-abbrev pub found_reply : DestFound → Reply ℕ
-found_reply D.Nothing = accepts []
-found_reply (D.At n) = accepts (n ∷ [])
+abbrev pub found_reply : Option ℕ → Reply ℕ
+found_reply None = accepts []
+found_reply (Some n) = accepts (n ∷ [])
 
 -- ---- what each call says
 

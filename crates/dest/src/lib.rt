@@ -3,13 +3,12 @@
 #![tactic(auto)]
 
 ghost use Rattle.std.specs.Prelude.{◌≡◌};
-ghost use Rattle.state.specs.Registry.{dest_count, same_target};
-ghost use Rattle.dest.specs.Entries.{no_dests, dests_empty, get_dest, find_dest, is_found};
+ghost use Rattle.refusal.specs.Refusal.{code_of};
+ghost use Rattle.state.specs.Registry.{dest_count};
+ghost use Rattle.dest.specs.Entries.{no_dests, dests_empty, get_dest, find_dest};
 ghost use Rattle.dest.specs.Replies.{entry_reply, found_reply, entry_says, found_says};
-ghost use Rattle.dest.specs.Adding.{bad_slot, add_code, add_dest};
+ghost use Rattle.dest.specs.Adding.{bad_slot, add_code, added_said, add_dest};
 ghost use Rattle.dest.specs.Info.{
-  with_scope,
-  with_rate,
   dest_voice,
   dest_global,
   dest_audio,
@@ -26,29 +25,14 @@ ghost use Rattle.dest.specs.Info.{
 };
 
 use config::{DESTINATIONS, SLOTS};
+use refusal::Refusal;
 use state::{Dest, Destinations, Feed, Rate, Scope, Target};
 
-// The answer of add. Code 0: the entry is number id of the registry. Else the number of the row, id 0, and the registry
-// as it came.
+// The registry with one entry more, and the entry's number.
 #[derive(Clone, Copy)]
-pub struct DestAdded {
-    pub code: u8,
+pub struct Added {
     pub id: usize,
     pub dests: Destinations,
-}
-
-// The entry of a number, or none.
-#[derive(Clone, Copy)]
-pub enum DestEntry {
-    Nothing,
-    Entry(Dest),
-}
-
-// The number of the entry that has a target, or none.
-#[derive(Clone, Copy)]
-pub enum DestFound {
-    Nothing,
-    At(usize),
 }
 
 // An entry that is made by steps; add judges it.
@@ -102,43 +86,29 @@ pub fn is_empty(dests: Destinations) -> bool
 }
 
 // destination id, if it is registered
-pub fn get(dests: Destinations, id: usize) -> DestEntry
+pub fn get(dests: Destinations, id: usize) -> Option<Dest>
     ensures value { result ≡ get_dest dests id }
     ensures reply { entry_reply result ≡ entry_says dests id }
 {
     if id < len(dests) {
-        let e = dests.entry[id];
-        return DestEntry::Entry(e);
+        return Some(dests.entry[id]);
     }
-    DestEntry::Nothing
+    None
 }
 
-// the destination of a target
-pub fn find(dests: Destinations, target: Target) -> DestFound
+// the number of the destination with this target, if there is one
+pub fn find(dests: Destinations, target: Target) -> Option<usize>
     ensures value { result ≡ find_dest dests target }
     ensures reply { found_reply result ≡ found_says dests target }
 {
     let n = len(dests);
-    let mut i = 0;
-    while i < n {
+    for i in 0..n {
         let e = dests.entry[i];
-        let t = e.target;
-        if state::same_target(t, target) {
-            return DestFound::At(i);
+        if state::same_target(e.target, target) {
+            return Some(i);
         }
-        i += 1;
     }
-    DestFound::Nothing
-}
-
-// whether something was found
-fn is_found(found: DestFound) -> bool
-    ensures { result ≡ is_found found }
-{
-    match found {
-        DestFound::Nothing => false,
-        DestFound::At(_) => true,
-    }
+    None
 }
 
 // whether the feed is onto a slot that the matrix does not have
@@ -153,27 +123,14 @@ fn feeds_no_slot(feed: Feed) -> bool
     }
 }
 
-// the number by which an entry is refused, or 0
-fn add_code(dests: Destinations, d: Dest) -> u8
-    ensures { result ≡ add_code dests d }
+// whether an entry may be added, or why it may not
+fn check(dests: Destinations, d: Dest) -> Result<(), Refusal>
+    ensures { code_of result ≡ add_code dests d }
 {
-    let target = d.target;
-    if is_found(find(dests, target)) {
-        return 9;
-    }
-    let min = d.min;
-    let max = d.max;
-    if !(min < max) {
-        return 10;
-    }
-    let feed = d.feed;
-    if feeds_no_slot(feed) {
-        return 11;
-    }
-    if DESTINATIONS <= len(dests) {
-        return 12;
-    }
-    0
+    refusal::when(find(dests, d.target).is_some(), Refusal::Registered)?;
+    refusal::when(!(d.min < d.max), Refusal::Bounds)?;
+    refusal::when(feeds_no_slot(d.feed), Refusal::FeedSlot)?;
+    refusal::when(DESTINATIONS <= len(dests), Refusal::Full)
 }
 
 // the registry with one more entry, and the entry's number
@@ -185,8 +142,8 @@ pub fn add(
     min: f32,
     max: f32,
     feed: Feed,
-) -> DestAdded
-    ensures { result ≡ add_dest dests
+) -> Result<Added, Refusal>
+    ensures { added_said dests result ≡ add_dest dests
         (record { target = target; scope = scope; rate = rate; min = min; max = max; feed = feed }) }
 {
     let d = Dest {
@@ -197,19 +154,12 @@ pub fn add(
         max,
         feed,
     };
-    let code = add_code(dests, d);
-    if code != 0 {
-        return DestAdded { code, id: 0, dests };
-    }
-    let n = len(dests);
+    check(dests, d)?;
+    let id = len(dests);
     let mut next = dests;
-    next.entry[n] = d;
-    next.count = n + 1;
-    DestAdded {
-        code: 0,
-        id: n,
-        dests: next,
-    }
+    next.entry[id] = d;
+    next.count = id + 1;
+    Ok(Added { id, dests: next })
 }
 
 // ---- entries by steps
@@ -266,69 +216,44 @@ impl DestInfo {
         DestInfo::param(id).feeds(Feed::Output(slot))
     }
 
-    // with another scope and another rate
-    fn at(self, scope: Scope, rate: Rate) -> DestInfo
-        ensures { result ≡ with_scope scope (with_rate rate self) }
-    {
-        let target = self.target;
-        let feed = self.feed;
-        DestInfo {
-            target,
-            scope,
-            rate,
-            min: self.min,
-            max: self.max,
-            feed,
-        }
-    }
-
-    fn with_scope(self, scope: Scope) -> DestInfo
-        ensures { result ≡ with_scope scope self }
-    {
-        let rate = self.rate;
-        self.at(scope, rate)
-    }
-
-    fn with_rate(self, rate: Rate) -> DestInfo
-        ensures { result ≡ with_rate rate self }
-    {
-        let scope = self.scope;
-        self.at(scope, rate)
-    }
-
     // per voice
     pub fn voice(mut self) -> DestInfo
         ensures { result ≡ dest_voice self }
     {
-        self.with_scope(Scope::Voice)
+        self.scope = Scope::Voice;
+        self
     }
 
     // global
     pub fn global(mut self) -> DestInfo
         ensures { result ≡ dest_global self }
     {
-        self.with_scope(Scope::Global)
+        self.scope = Scope::Global;
+        self
     }
 
     // at audio rate
     pub fn audio(mut self) -> DestInfo
         ensures { result ≡ dest_audio self }
     {
-        self.with_rate(Rate::Audio)
+        self.rate = Rate::Audio;
+        self
     }
 
     // at control rate
     pub fn control(mut self) -> DestInfo
         ensures { result ≡ dest_control self }
     {
-        self.with_rate(Rate::Control)
+        self.rate = Rate::Control;
+        self
     }
 
     // at audio rate where a route into it reads audio
     pub fn adaptive(mut self) -> DestInfo
         ensures { result ≡ dest_adaptive self }
     {
-        self.with_rate(Rate::Adaptive)
+        self.rate = Rate::Adaptive;
+        self
     }
 
     // held to min and max
@@ -352,15 +277,8 @@ impl DestInfo {
     pub fn feeds(mut self, feed: Feed) -> DestInfo
         ensures { result ≡ dest_feeds self feed }
     {
-        let target = self.target;
-        let scope = self.scope;
-        DestInfo {
-            target,
-            scope,
-            rate: Rate::Control,
-            min: self.min,
-            max: self.max,
-            feed,
-        }
+        self.rate = Rate::Control;
+        self.feed = feed;
+        self
     }
 }

@@ -6,10 +6,11 @@ ghost use Rattle.std.specs.Prelude.{◌≤◌, length};
 
 use config::{Config, SLOTS};
 use curve_table::{Curve, POINTS};
-use engine::Engine;
+use engine::{Engine, Swapped};
 use matrix::{NoteSlot, SortBy};
+use refusal::Refusal;
 use slots_tables::{KEY_PLACE, TABLES};
-use state::{Aim, Matrix, Pick, Polarity, Program, Slot};
+use state::{Matrix, Polarity, Program, Slot};
 use std::io::Stdout;
 
 // the largest number, the least that is beyond 16, 16, and what is not finite
@@ -28,10 +29,15 @@ const VELOCITY_END: usize = KEY_PLACE * POINTS - 1;
 
 const KEY_END: usize = TABLES - 1;
 
-fn say(stdout: Stdout, what: &[u8], code: u8) {
+// a call, and the number that it hands back: 0 where it is accepted
+fn say<T: Drop>(stdout: Stdout, what: &[u8], answer: Result<T, Refusal>) {
+    let number = match answer {
+        Ok(_) => 0,
+        Err(refusal) => refusal.number(),
+    };
     let mut to = stdout;
     streams::write(&mut to, what);
-    streams::write_decimal(&mut to, code as u64);
+    streams::write_decimal(&mut to, number as u64);
     streams::write(&mut to, b"\n");
 }
 
@@ -39,15 +45,15 @@ fn say(stdout: Stdout, what: &[u8], code: u8) {
 
 // an empty matrix, but for the numbers of its last slot
 fn last_slot(amount: u32, output: u32, rise: u32, fall: u32) -> Matrix {
-    let source = Pick::Nothing;
-    let aux = Pick::Nothing;
+    let source = None;
+    let aux = None;
     let source_curve = Curve::Linear;
     let aux_curve = Curve::Table {
         rise: hex_words::of_bits(rise),
         fall: hex_words::of_bits(fall),
     };
     let polarity = Polarity::Unipolar;
-    let destination = Aim::Nothing;
+    let destination = None;
     let slot = Slot {
         source,
         source_curve,
@@ -65,23 +71,14 @@ fn last_slot(amount: u32, output: u32, rise: u32, fall: u32) -> Matrix {
     next
 }
 
-fn loaded(m: Matrix, tables: &mut [f32], others: &[f32]) -> u8 {
-    let e = matrix::load(matrix::new(), tables, m, others);
-    e.code
-}
-
-fn sorted(m: Matrix, tables: &mut [f32]) -> u8 {
-    let e = matrix::sort(m, tables, SortBy::Source);
-    e.code
-}
-
 // a matrix that is loaded, and then sorted
 fn both(stdout: Stdout, what: &[u8], m: Matrix, tables: &mut [f32], others: &[f32]) {
     let mut to = stdout;
     streams::write(&mut to, what);
-    say(stdout, b" load ", loaded(m, tables, others));
+    let loaded = matrix::load(matrix::new(), tables, m, others);
+    say(stdout, b" load ", loaded);
     streams::write(&mut to, what);
-    say(stdout, b" sort ", sorted(m, tables));
+    say(stdout, b" sort ", matrix::sort(m, tables, SortBy::Source));
 }
 
 // the same, with tables of its own
@@ -106,13 +103,10 @@ fn slots(stdout: Stdout) {
 // a matrix whose velocity curve is the table at its place
 fn velocity() -> Matrix {
     let mut tables = [0.0f32; TABLES];
-    let e = matrix::set_note_curve(
-        matrix::new(),
-        &mut tables,
-        NoteSlot::Velocity,
-        &[0.0f32; POINTS],
-    );
-    e.matrix
+    let linear = matrix::new();
+    matrix::set_note_curve(linear, &mut tables, NoteSlot::Velocity, &[0.0f32; POINTS]).unwrap_or(
+        linear,
+    )
 }
 
 fn store(numbers: &mut [f32], at: usize, bits: u32) {
@@ -185,31 +179,29 @@ fn config(voices: usize) -> Config {
 }
 
 // the empty program for so many voices, but for the numbers of its last slot
-fn program(voices: usize, amount: u32, output: u32) -> Program {
-    let made = program::empty(config(voices));
-    let mut next = made.program;
+fn program(voices: usize, amount: u32, output: u32) -> Result<Program, Refusal> {
+    let mut next = program::empty(config(voices))?;
     let mut gains = next.gains;
     gains.amount[SLOTS - 1] = hex_words::of_bits(amount);
     gains.output[SLOTS - 1] = hex_words::of_bits(output);
     next.gains = gains;
-    next
+    Ok(next)
 }
 
-fn swapped(p: Program) -> u8 {
+// a program that is swapped into a new engine for one voice
+fn swapped(made: Result<Program, Refusal>) -> Result<Swapped, Refusal> {
     let mut held = [0.0f32; 16];
     let mut globals = [0.0f32; 1];
     let mut bases = [0.0f32; 1];
-    let made = Engine::new(
+    let engine = Engine::new(
         source::new(),
         dest::new(),
         config(1),
         &mut held,
         &mut globals,
         &mut bases,
-    );
-    let engine = made.engine;
-    let done = engine.swap(p);
-    done.code
+    )?;
+    engine.swap(made?)
 }
 
 fn programs(stdout: Stdout) {
@@ -234,18 +226,18 @@ fn programs(stdout: Stdout) {
 
 // ---- curves
 
-fn slewed(rise: u32, fall: u32) -> u8 {
-    let made = curve::slew(Curve::Table {
+fn slewed(stdout: Stdout, what: &[u8], rise: u32, fall: u32) {
+    let curve = Curve::Table {
         rise: hex_words::of_bits(rise),
         fall: hex_words::of_bits(fall),
-    });
-    made.code
+    };
+    say(stdout, what, curve::slew(curve));
 }
 
 fn curves(stdout: Stdout) {
-    say(stdout, b"slew largest ", slewed(LARGEST, LARGEST));
-    say(stdout, b"slew rise ", slewed(INFINITE, 0));
-    say(stdout, b"slew fall ", slewed(0, NOT_A_NUMBER));
+    slewed(stdout, b"slew largest ", LARGEST, LARGEST);
+    slewed(stdout, b"slew rise ", INFINITE, 0);
+    slewed(stdout, b"slew fall ", 0, NOT_A_NUMBER);
 }
 
 fn main(rt: HostRuntime) {

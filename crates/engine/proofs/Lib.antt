@@ -5,3 +5,4 @@ pub mod NotingCalls
 pub mod Processing
 pub mod PartsRefused
 pub mod Replies
+pub mod Refused

@@ -2,6 +2,7 @@
 use mathlib.Core.Path.{◌≡◌, refl, sym, ap, ◌∙◌}
 use mathlib.Core.Bool.{Bool, true, false, cond, not, ◌||◌}
 use mathlib.Core.List.{List, [], ◌∷◌}
+use Rattle.std.specs.Prelude.{Ok, Err}
 use Prim.Native.Nat.{ℕ, ◌<◌, min}
 use native.Mathlib.Omega.{arith}
 use borrow.Author.Tests.{leb-false}
@@ -12,7 +13,7 @@ use Rattle.config.specs.Sizes.{most_voices}
 use Rattle.refusal.specs.Judge.{Row, judged, ◌when◌}
 use Rattle.number.specs.Number.{finite}
 use Rattle.voice.specs.Voices.{is_sounding}
-use Rattle.state.specs.declared.Flag.{Flag}
+use Rattle.refusal.specs.declared.Refusal.TheVariants as R
 use Rattle.state.specs.declared.State.{State}
 use Rattle.model.specs.Counts.{voice_count}
 use Rattle.model.specs.World.{World, world_of}
@@ -26,6 +27,7 @@ use Rattle.engine_notes.specs.declared.Sounding.{Sounding}
 use Rattle.engine_notes.specs.Noting.{Inside, held_in, sound_on, held_on, sound_ended}
 use Rattle.engine_notes.specs.Parts.{lane_in, sounding_of, state_with, setting_of}
 use Rattle.engine_notes.proofs.Whole.{noted-is, release-is}
+use Rattle.engine.specs.Said.{flag_said}
 use Rattle.engine.proofs.ByNumber.{done-code, done-part, done-kept}
 
 -- where the first row does not apply
@@ -160,10 +162,10 @@ module _ (st : State) (held : List Float) (v : ℕ) where
 -- ---- whether a voice is active
 
 module _ (st : State) (v : ℕ) (missing : Bool) (missing-is : missing ≡ leb (voice_count st) v) where
-  pub no-such-voice : missing ≡ true → ◌≡◌ {A = Flag} (record { code = 2; on = false }) (is_active st v)
+  pub no-such-voice : missing ≡ true → flag_said (Err R.Voice) ≡ is_active st v
   unfolding is_active judged
   no-such-voice h = simp (sym missing-is ∙ h)
 
-  pub such-a-voice : missing ≡ false → (on : Bool) → on ≡ is_sounding st.voices v → ◌≡◌ {A = Flag} (record { code = 0; on = on }) (is_active st v)
+  pub such-a-voice : missing ≡ false → (on : Bool) → on ≡ is_sounding st.voices v → flag_said (Ok on) ≡ is_active st v
   unfolding is_active judged
   such-a-voice h on e = simp (sym missing-is ∙ h, e)

@@ -7,17 +7,16 @@ use lib.Dec.{eqb, ltb}
 use lib.Ieee.{Float}
 use native.Mathlib.Omega.{arith}
 use borrow.Author.Tests.{ne_eqb}
+use Rattle.std.specs.Prelude.{Option, Some, None}
 use Rattle.refusal.specs.Judge.{Row, ◌when◌, judged}
 use Rattle.reply.specs.Reply.{accepts, refuses, only, by_rows}
 use Rattle.state.specs.declared.Chunk.{Chunk}
-use Rattle.state.specs.declared.ChunkRead.{ChunkRead}
-use Rattle.state.specs.declared.ChunkRead.TheVariants as C
-use Rattle.state.specs.declared.Output.{Output}
-use Rattle.state.specs.declared.Output.TheVariants as O
-use Rattle.state.specs.declared.Reading.{Reading}
-use Rattle.state.specs.declared.Reading.TheVariants as R
-use Rattle.state.specs.declared.Ramped.{Ramped}
-use Rattle.state.specs.declared.Ramped.TheVariants as M
+use Rattle.state.specs.Output.{Output}
+use Rattle.state.specs.Output as O
+use Rattle.state.specs.Reading.{Reading}
+use Rattle.state.specs.Reading as R
+use Rattle.state.specs.Ramped.{Ramped}
+use Rattle.state.specs.Ramped as M
 use Rattle.state.specs.declared.State.{State}
 use Rattle.model.specs.Counts.{frame_count}
 use Rattle.model.specs.Chunks.{chunk_total, chunk_of}
@@ -31,7 +30,7 @@ use Rattle.engine.specs.Replies.{chunk_says, output_says, at_says, value_says, l
 
 -- ---- one thing, or nothing
 
-chunk-if : (b : Bool) (c : Chunk) → chunk_reply (cond b (C.Chunk c) C.Nothing) ≡ accepts (only b c)
+chunk-if : (b : Bool) (c : Chunk) → chunk_reply (cond b (Some c) None) ≡ accepts (only b c)
 chunk-if true c = refl
 chunk-if false c = refl
 
@@ -67,7 +66,7 @@ ramp-if false n out new = refl
 -- ---- the calls
 
 module _ (st : State) where
-  pub chunk-said : (i : ℕ) (r : ChunkRead) → r ≡ chunk_at st i → (r ≡ chunk_at st i) × (chunk_reply r ≡ chunk_says st i)
+  pub chunk-said : (i : ℕ) (r : Option Chunk) → r ≡ chunk_at st i → (r ≡ chunk_at st i) × (chunk_reply r ≡ chunk_says st i)
   unfolding chunk_at chunk_says by_rows judged
   chunk-said i r h = (h, rw h (chunk-if (ltb i (chunk_total st.block)) (chunk_of st.block i)))
 

@@ -1,3 +1,4 @@
 pub mod Noting
 pub mod Shown
 pub mod Replies
+pub mod Said

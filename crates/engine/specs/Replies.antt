@@ -1,17 +1,15 @@
 -- What the readers of an engine say: number and values of each case (document 01, The form to use in each place). The
 -- numbers of the cases stand in `model`. Definitions only.
-use Rattle.std.specs.Prelude.{◌&&◌, ◌||◌, List, [], ◌∷◌, ℕ, ltb, length, Float}
+use Rattle.std.specs.Prelude.{◌&&◌, ◌||◌, List, [], ◌∷◌, ℕ, ltb, length, Float, Option, Some, None}
 use Rattle.refusal.specs.Judge.{Row, ◌when◌}
 use Rattle.reply.specs.Reply.{Reply, accepts, only, by_rows}
 use Rattle.state.specs.declared.Chunk.{Chunk}
-use Rattle.state.specs.declared.ChunkRead.{ChunkRead}
-use Rattle.state.specs.declared.ChunkRead.TheVariants as C
-use Rattle.state.specs.declared.Output.{Output}
-use Rattle.state.specs.declared.Output.TheVariants as O
-use Rattle.state.specs.declared.Reading.{Reading}
-use Rattle.state.specs.declared.Reading.TheVariants as R
-use Rattle.state.specs.declared.Ramped.{Ramped}
-use Rattle.state.specs.declared.Ramped.TheVariants as M
+use Rattle.state.specs.Output.{Output}
+use Rattle.state.specs.Output as O
+use Rattle.state.specs.Reading.{Reading}
+use Rattle.state.specs.Reading as R
+use Rattle.state.specs.Ramped.{Ramped}
+use Rattle.state.specs.Ramped as M
 use Rattle.state.specs.declared.State.{State}
 use Rattle.model.specs.Counts.{frame_count}
 use Rattle.model.specs.Chunks.{chunk_total, chunk_of}
@@ -22,9 +20,9 @@ use Rattle.model.specs.Outputs.{is_control_plan, audio_number, to_number, has_la
 
 -- ---- each case
 
-abbrev pub chunk_reply : ChunkRead → Reply Chunk
-chunk_reply C.Nothing = accepts []
-chunk_reply (C.Chunk c) = accepts (c ∷ [])
+abbrev pub chunk_reply : Option Chunk → Reply Chunk
+chunk_reply None = accepts []
+chunk_reply (Some c) = accepts (c ∷ [])
 
 -- the width of its rows, and of a control destination the number of chunks
 abbrev pub output_values : Output → List ℕ

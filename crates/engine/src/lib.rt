@@ -13,6 +13,9 @@ ghost use Rattle.model.specs.Outputs.{chunk_count, chunk_at, audio_at, control_v
 ghost use Rattle.model.specs.NoteCalls.{new_note, note_finite, note_on, note_off, voice_ended, is_active};
 ghost use Rattle.model.specs.Process.{process};
 ghost use Rattle.model.specs.States.{with_draw};
+ghost use Rattle.refusal.specs.Refusal.{code_of};
+ghost use Rattle.engine_reads.specs.Said.{output_said, part_said, reading_said, ramped_said};
+ghost use Rattle.engine.specs.Said.{flag_said, bound_said, state_after, state_swapped, program_left};
 ghost use Rattle.engine.specs.Noting.{note_of, setting_by};
 ghost use Rattle.engine.specs.Shown.{engine_state};
 ghost use Rattle.engine.specs.Replies.{chunk_reply, output_reply, reading_reply, ramped_reply};
@@ -21,11 +24,10 @@ ghost use Rattle.engine.specs.Replies.{chunk_says, output_says, at_says, value_s
 use block_opening::Lengths;
 use config::{Config, SIGNAL_STRIDE, SOURCES};
 use engine_notes::{Setting, Sounding};
+pub use engine_reads::Output;
+use refusal::Refusal;
 use slots_tables::{KEY_PLACE, VELOCITY_PLACE};
-use state::{
-    Bound, ChunkRead, Destinations, Flag, NoteCurve, Output, Program, Ramped, Reading, SignalPart,
-    Signals, Sources, State,
-};
+use state::{Chunk, Destinations, NoteCurve, Program, SignalPart, Signals, Sources, State};
 
 // An engine; its memories are lent with each call.
 #[derive(Clone, Copy)]
@@ -33,25 +35,9 @@ pub struct Engine {
     state: State,
 }
 
-// A new engine, or the row by which it is refused, with the engine for rate 1, 0 frames, 0 voices and nothing
-// registered.
-#[derive(Clone, Copy)]
-pub struct Made {
-    pub code: u8,
-    pub engine: Engine,
-}
-
-// The engine after a call, or as it came with the row by which the call is refused.
-#[derive(Clone, Copy)]
-pub struct Done {
-    pub engine: Engine,
-    pub code: u8,
-}
-
-// The engine with the program installed and the one that it replaces; on a refusal both as they came.
+// The engine with a program installed, and the program that it replaces.
 #[derive(Clone, Copy)]
 pub struct Swapped {
-    pub code: u8,
     pub engine: Engine,
     pub program: Program,
 }
@@ -67,10 +53,10 @@ impl Engine {
         held: &mut [f32],
         globals: &mut [f32],
         bases: &mut [f32],
-    ) -> Made
-        ensures answer { (result.code ≡ (new_engine sources dests config
+    ) -> Result<Engine, Refusal>
+        ensures answer { (code_of result ≡ (new_engine sources dests config
             (world_of refused_state held.old globals.old bases.old [] [] [])).code)
-            × (result.engine.state ≡ (new_engine sources dests config
+            × (state_after refused_state result ≡ (new_engine sources dests config
             (world_of refused_state held.old globals.old
             bases.old [] [] [])).world.state) }
         ensures lent { (held.new ≡ (new_engine sources dests config
@@ -85,33 +71,35 @@ impl Engine {
     {
         let n = engine_settings::sources_of(sources.count);
         let d = engine_settings::dests_of(dests.count);
-        let code = engine_settings::new_code(config, n, d, held.len(), globals.len(), bases.len());
-        if code != 0 {
-            let state = engine_settings::refused_state();
-            let engine = Engine { state };
-            return Made { code, engine };
-        }
+        engine_settings::new_code(config, n, d, held.len(), globals.len(), bases.len())?;
         compile::zero(held, engine_settings::held_need(config, n));
         compile::zero(globals, n);
         compile::zero(bases, d);
         let entry = sources.entry;
         let mark = engine_settings::marks_of(entry);
         let state = engine_settings::fresh_state(config, n, d, mark);
-        let engine = Engine { state };
-        Made { code: 0, engine }
+        Ok(Engine { state })
+    }
+
+    // The engine for rate 1, 0 frames and 0 voices, with nothing registered: it needs no memory.
+    pub fn bare() -> Engine
+        ensures { result.state ≡ refused_state }
+    {
+        let state = engine_settings::refused_state();
+        Engine { state }
     }
 
     // The program is installed, and the one that it replaces comes back.
-    pub fn swap(self, program: Program) -> Swapped
-        ensures { (result.code ≡ (swap_program self.state program).code)
-            × ((result.engine.state ≡ (swap_program self.state program).state)
-            × (result.program ≡ (swap_program self.state program).program)) }
+    pub fn swap(self, program: Program) -> Result<Swapped, Refusal>
+        ensures { (code_of result ≡ (swap_program self.state program).code)
+            × ((state_swapped self.state result ≡ (swap_program self.state program).state)
+            × (program_left program result ≡ (swap_program self.state program).program)) }
     {
         let mut state = self.state;
         let config = state.config;
         let other = program.config;
         let gains = program.gains;
-        let code = engine_settings::swap_code(
+        engine_settings::swap_code(
             engine_settings::gains_finite(gains),
             config,
             state.sources,
@@ -120,26 +108,21 @@ impl Engine {
             program.sources,
             program.dests,
             program.routes,
-        );
+        )?;
         let old = state.program;
         let voices = state.voices;
         let active = voices.active;
         let marks = state.marks;
-        let marks_next = engine_settings::put_swapped(code, marks, active);
-        let gains_before = state.gains;
-        let gains_next = engine_settings::either_gains(code, gains, gains_before);
-        let installed = engine_settings::either_program(code, program, old);
-        let left = engine_settings::either_program(code, old, program);
-        state.program = installed;
-        state.gains = gains_next;
-        state.marks = marks_next;
-        state.primed = engine_settings::put_unprimed(code, state.primed);
+        let swapped = marks.swapped(active);
+        state.program = program;
+        state.gains = gains;
+        state.marks = swapped;
+        state.primed = false;
         let engine = Engine { state };
-        Swapped {
-            code,
+        Ok(Swapped {
             engine,
-            program: left,
-        }
+            program: old,
+        })
     }
 
     // The engine's state, to look at.
@@ -175,10 +158,16 @@ impl Engine {
     }
 
     // A source's held number: all lanes of a source per voice, the one number of a global one.
-    pub fn set_held(self, held: &mut [f32], globals: &mut [f32], source: usize, value: f32) -> Done
-        ensures { (result.code ≡ (set_held
+    pub fn set_held(
+        self,
+        held: &mut [f32],
+        globals: &mut [f32],
+        source: usize,
+        value: f32,
+    ) -> Result<Engine, Refusal>
+        ensures { (code_of result ≡ (set_held
             (world_of self.state held.old globals.old [] [] [] []) source value).code)
-            × ((result.engine.state ≡ (set_held
+            × ((state_after self.state result ≡ (set_held
             (world_of self.state held.old globals.old [] [] [] []) source value).world.state)
             × ((held.new ≡ (set_held
             (world_of self.state held.old globals.old [] [] [] []) source value).world.held)
@@ -188,97 +177,96 @@ impl Engine {
     {
         let state = self.state;
         let config = state.config;
-        let code = engine_settings::held_code(
+        engine_settings::held_code(
             config,
             state.sources,
             held.len(),
             globals.len(),
             source,
             value,
-        );
+        )?;
         let mark = state.mark;
         let voice = engine_settings::voice_at(mark, source);
         let stride = engine_settings::stride_of(config);
-        engine_settings::put_held(code, held, globals, voice, stride, source, value);
-        Done { code, engine: self }
+        engine_settings::write_held(held, globals, voice, stride, source, value);
+        Ok(self)
     }
 
     // One lane of a source's held number.
-    pub fn set_voice_held(self, held: &mut [f32], source: usize, voice: usize, value: f32) -> Done
-        ensures { (result.code ≡ (set_voice_held
+    pub fn set_voice_held(
+        self,
+        held: &mut [f32],
+        source: usize,
+        voice: usize,
+        value: f32,
+    ) -> Result<Engine, Refusal>
+        ensures { (code_of result ≡ (set_voice_held
             (world_of self.state held.old [] [] [] [] []) source voice value).code)
-            × ((result.engine.state ≡ (set_voice_held
+            × ((state_after self.state result ≡ (set_voice_held
             (world_of self.state held.old [] [] [] [] []) source voice value).world.state)
             × (held.new ≡ (set_voice_held
             (world_of self.state held.old [] [] [] [] []) source voice value).world.held)) }
     {
         let state = self.state;
         let config = state.config;
-        let code = engine_settings::voice_held_code(
-            config,
-            state.sources,
-            held.len(),
-            source,
-            voice,
-            value,
-        );
+        engine_settings::voice_held_code(config, state.sources, held.len(), source, voice, value)?;
         let stride = engine_settings::stride_of(config);
-        engine_settings::put_lane(code, held, stride, source, voice, value);
-        Done { code, engine: self }
+        engine_settings::write_lane(held, stride, source, voice, value);
+        Ok(self)
     }
 
     // A destination's base.
-    pub fn set_base(self, bases: &mut [f32], dest: usize, value: f32) -> Done
-        ensures { (result.code ≡ (set_base
+    pub fn set_base(self, bases: &mut [f32], dest: usize, value: f32) -> Result<Engine, Refusal>
+        ensures { (code_of result ≡ (set_base
             (world_of self.state [] [] bases.old [] [] []) dest value).code)
-            × ((result.engine.state ≡ (set_base
+            × ((state_after self.state result ≡ (set_base
             (world_of self.state [] [] bases.old [] [] []) dest value).world.state)
             × (bases.new ≡ (set_base
             (world_of self.state [] [] bases.old [] [] []) dest value).world.bases)) }
     {
         let state = self.state;
-        let code = engine_settings::base_code(state.dests, bases.len(), dest, value);
-        engine_settings::put_base(code, bases, dest, value);
-        Done { code, engine: self }
+        engine_settings::base_code(state.dests, bases.len(), dest, value)?;
+        bases[dest] = value;
+        Ok(self)
     }
 
     // A slot's live amount, clamped to -1..1.
-    pub fn set_amount(self, slot: usize, amount: f32) -> Done
-        ensures { (result.code ≡ (set_amount (world_of self.state [] [] [] [] [] []) slot amount).code)
-            × (result.engine.state ≡ (set_amount (world_of self.state [] [] [] [] [] []) slot amount).world.state) }
+    pub fn set_amount(self, slot: usize, amount: f32) -> Result<Engine, Refusal>
+        ensures { (code_of result ≡ (set_amount (world_of self.state [] [] [] [] [] []) slot amount).code)
+            × (state_after self.state result
+            ≡ (set_amount (world_of self.state [] [] [] [] [] []) slot amount).world.state) }
     {
-        let code = engine_settings::gain_code(slot, amount);
+        engine_settings::gain_code(slot, amount)?;
         let mut state = self.state;
         let gains = state.gains;
-        let next = engine_settings::put_amount(code, gains, slot, amount);
+        let next = engine_settings::with_amount(gains, slot, amount);
         state.gains = next;
-        let engine = Engine { state };
-        Done { code, engine }
+        Ok(Engine { state })
     }
 
     // A slot's live output, clamped to 0..1.
-    pub fn set_output(self, slot: usize, output: f32) -> Done
-        ensures { (result.code ≡ (set_output (world_of self.state [] [] [] [] [] []) slot output).code)
-            × (result.engine.state ≡ (set_output (world_of self.state [] [] [] [] [] []) slot output).world.state) }
+    pub fn set_output(self, slot: usize, output: f32) -> Result<Engine, Refusal>
+        ensures { (code_of result ≡ (set_output (world_of self.state [] [] [] [] [] []) slot output).code)
+            × (state_after self.state result
+            ≡ (set_output (world_of self.state [] [] [] [] [] []) slot output).world.state) }
     {
-        let code = engine_settings::gain_code(slot, output);
+        engine_settings::gain_code(slot, output)?;
         let mut state = self.state;
         let gains = state.gains;
-        let next = engine_settings::put_output(code, gains, slot, output);
+        let next = engine_settings::with_output(gains, slot, output);
         state.gains = next;
-        let engine = Engine { state };
-        Done { code, engine }
+        Ok(Engine { state })
     }
 
     // The voice limit, at least 1.
-    pub fn set_voice_limit(self, voices: usize) -> Done
-        ensures { (result.code ≡ (set_voice_limit (world_of self.state [] [] [] [] [] []) voices).code)
-            × (result.engine.state ≡ (set_voice_limit (world_of self.state [] [] [] [] [] []) voices).world.state) }
+    pub fn set_voice_limit(self, voices: usize) -> Engine
+        ensures { (0 ≡ (set_voice_limit (world_of self.state [] [] [] [] [] []) voices).code)
+            × (result.state ≡ (set_voice_limit (world_of self.state [] [] [] [] [] []) voices).world.state) }
     {
         let limit = engine_settings::limit_of(voices);
         let mut engine = self;
         engine.state.limit = limit;
-        Done { code: 0, engine }
+        engine
     }
 }
 
@@ -298,22 +286,25 @@ pub fn no_signals() -> Signals
 }
 
 // A source's part of the samples.
-pub fn bind(signals: Signals, source: usize, at: usize, len: usize, stride: usize) -> Bound
-    ensures { result ≡ bind_signal signals source at len stride }
+pub fn bind(
+    signals: Signals,
+    source: usize,
+    at: usize,
+    len: usize,
+    stride: usize,
+) -> Result<Signals, Refusal>
+    ensures { bound_said signals result ≡ bind_signal signals source at len stride }
 {
     if SIGNAL_STRIDE < stride {
-        return Bound { code: 13, signals };
+        return Err(Refusal::Range);
     }
     if SOURCES <= source {
-        return Bound { code: 0, signals };
+        return Ok(signals);
     }
     let mut next = signals;
     let part = SignalPart { at, len, stride };
     next.part[source] = part;
-    Bound {
-        code: 0,
-        signals: next,
-    }
+    Ok(next)
 }
 
 // ---- notes
@@ -393,10 +384,16 @@ fn setting_by(tables: &[f32], curves: Curves, rate: f32, note: NoteOn) -> Settin
 
 impl Engine {
     // A note starts on a voice.
-    pub fn note_on(self, held: &mut [f32], tables: &[f32], voice: usize, note: NoteOn) -> Done
-        ensures { (result.code ≡ (note_on
+    pub fn note_on(
+        self,
+        held: &mut [f32],
+        tables: &[f32],
+        voice: usize,
+        note: NoteOn,
+    ) -> Result<Engine, Refusal>
+        ensures { (code_of result ≡ (note_on
             (world_of self.state held.old [] [] [] [] tables.now) voice (note_of note)).code)
-            × ((result.engine.state ≡ (note_on
+            × ((state_after self.state result ≡ (note_on
             (world_of self.state held.old [] [] [] [] tables.now) voice
             (note_of note)).world.state) ×
             (held.new ≡ (note_on (world_of self.state held.old [] [] [] []
@@ -405,7 +402,7 @@ impl Engine {
         let mut state = self.state;
         let config = state.config;
         let program = state.program;
-        let code = engine_notes::code(
+        engine_notes::code(
             engine_notes::no_voice(config.voices, voice),
             note_finite(note),
             engine_notes::memory_short(
@@ -415,7 +412,7 @@ impl Engine {
                 config.voices,
                 program.tabled,
             ),
-        );
+        )?;
         let velocity_curve = program.velocity;
         let key_curve = program.key;
         let curves = Curves {
@@ -439,7 +436,7 @@ impl Engine {
             alternate: state.alternate,
             draw: state.draw,
         };
-        let next = engine_notes::started(code, held, mark, lane, sounding, setting);
+        let next = engine_notes::note_on(held, mark, lane, sounding, setting);
         let voices_next = next.voices;
         state.voices = voices_next;
         let marks_next = next.marks;
@@ -450,46 +447,50 @@ impl Engine {
         state.key = key_next;
         state.alternate = next.alternate;
         state.draw = next.draw;
-        let engine = Engine { state };
-        Done { code, engine }
+        Ok(Engine { state })
     }
 
     // A note is released: its release velocity is written, and its voice sounds on.
-    pub fn note_off(self, held: &mut [f32], voice: usize, release_velocity: f32) -> Done
-        ensures { (result.code ≡ (note_off
+    pub fn note_off(
+        self,
+        held: &mut [f32],
+        voice: usize,
+        release_velocity: f32,
+    ) -> Result<Engine, Refusal>
+        ensures { (code_of result ≡ (note_off
             (world_of self.state held.old [] [] [] [] []) voice release_velocity).code)
-            × ((result.engine.state ≡ (note_off
+            × ((state_after self.state result ≡ (note_off
             (world_of self.state held.old [] [] [] [] []) voice release_velocity).world.state)
             × (held.new ≡ (note_off
             (world_of self.state held.old [] [] [] [] []) voice release_velocity).world.held)) }
     {
         let state = self.state;
         let config = state.config;
-        let code = engine_notes::code(
+        engine_notes::code(
             engine_notes::no_voice(config.voices, voice),
             number::is_finite(release_velocity),
             engine_notes::held_short(held.len(), state.sources, config.voices),
-        );
+        )?;
         let mark = state.mark;
         let lane = engine_notes::lane_of(state.sources, config.voices, voice);
-        engine_notes::released(code, held, mark, lane, release_velocity);
-        Done { code, engine: self }
+        engine_notes::released(held, mark, lane, release_velocity);
+        Ok(self)
     }
 
     // A voice has stopped sounding.
-    pub fn voice_ended(self, held: &[f32], voice: usize) -> Done
-        ensures { (result.code ≡ (voice_ended
+    pub fn voice_ended(self, held: &[f32], voice: usize) -> Result<Engine, Refusal>
+        ensures { (code_of result ≡ (voice_ended
             (world_of self.state held.now [] [] [] [] []) voice).code)
-            × (result.engine.state ≡ (voice_ended
+            × (state_after self.state result ≡ (voice_ended
             (world_of self.state held.now [] [] [] [] []) voice).world.state) }
     {
         let mut state = self.state;
         let config = state.config;
-        let code = engine_notes::code(
+        engine_notes::code(
             engine_notes::no_voice(config.voices, voice),
             true,
             engine_notes::held_short(held.len(), state.sources, config.voices),
-        );
+        )?;
         let voices = state.voices;
         let marks = state.marks;
         let velocity = state.velocity;
@@ -502,7 +503,7 @@ impl Engine {
             alternate: state.alternate,
             draw: state.draw,
         };
-        let next = engine_notes::ended(code, sounding, voice);
+        let next = engine_notes::ended(sounding, voice);
         let voices_next = next.voices;
         state.voices = voices_next;
         let marks_next = next.marks;
@@ -511,24 +512,20 @@ impl Engine {
         state.velocity = velocity_next;
         let key_next = next.key;
         state.key = key_next;
-        let engine = Engine { state };
-        Done { code, engine }
+        Ok(Engine { state })
     }
 
     // whether a voice is active
-    pub fn is_active(self, voice: usize) -> Flag
-        ensures { result ≡ is_active self.state voice }
+    pub fn is_active(self, voice: usize) -> Result<bool, Refusal>
+        ensures { flag_said result ≡ is_active self.state voice }
     {
         let state = self.state;
         let config = state.config;
         if engine_notes::no_voice(config.voices, voice) {
-            return Flag { code: 2, on: false };
+            return Err(Refusal::Voice);
         }
         let voices = state.voices;
-        Flag {
-            code: 0,
-            on: voices.is_active(voice),
-        }
+        Ok(voices.is_active(voice))
     }
 }
 
@@ -548,12 +545,12 @@ impl Engine {
         signals: Signals,
         start: usize,
         end: usize,
-    ) -> Done
-        ensures answer { (result.code
+    ) -> Result<Engine, Refusal>
+        ensures answer { (code_of result
             ≡ (process (world_of self.state held.old globals.old bases.now
             values.old audio.old tables.now)
             samples.now signals start end).code) ×
-            (result.engine.state ≡ (process (world_of self.state held.old globals.old
+            (state_after self.state result ≡ (process (world_of self.state held.old globals.old
             bases.now values.old audio.old tables.now)
             samples.now signals start end).world.state) }
         ensures lent { (held.new ≡ (process
@@ -583,9 +580,9 @@ impl Engine {
             tables: tables.len(),
             samples: samples.len(),
         };
-        let code = block::code(state, lent, signals, end);
+        block::code(state, lent, signals, end)?;
         let small = block::answered(
-            code, state, held, globals, bases, values, audio, tables, samples, signals, start, end,
+            state, held, globals, bases, values, audio, tables, samples, signals, start, end,
         );
         state.primed = small.primed;
         state.draw = small.draw;
@@ -598,8 +595,7 @@ impl Engine {
         state.marks = marks;
         let last = small.block;
         state.block = last;
-        let engine = Engine { state };
-        Done { code, engine }
+        Ok(Engine { state })
     }
 }
 
@@ -607,40 +603,37 @@ impl Engine {
 
 impl Engine {
     // The shape of a destination's output.
-    pub fn output(self, values: &[f32], audio: &[f32], dest: usize) -> Output
-        ensures value { result ≡ output_of self.state values.now audio.now dest }
-        ensures reply { output_reply result ≡ output_says self.state values.now
+    pub fn output(self, values: &[f32], audio: &[f32], dest: usize) -> Result<Output, Refusal>
+        ensures value { output_said result ≡ output_of self.state values.now audio.now dest }
+        ensures reply { output_reply (output_said result) ≡ output_says self.state values.now
             audio.now dest }
     {
         let state = self.state;
-        engine_reads::output(state, values, audio, dest)
+        engine_reads::output_shape(state, values, audio, dest)
     }
 
-    // The audio rows of a destination; their number goes into `code`.
-    pub fn audio_part<'a>(self, audio: &'a [f32], dest: usize, code: &mut u8) -> &'a [f32]
-        ensures { (result.now ≡ (audio_part self.state audio.now dest).numbers)
-            × (code.new ≡ (audio_part self.state audio.now dest).code) }
+    // The audio rows of a destination.
+    pub fn audio_part<'a>(self, audio: &'a [f32], dest: usize) -> Result<&'a [f32], Refusal>
+        ensures { part_said result ≡ audio_part self.state audio.now dest }
     {
         let state = self.state;
-        engine_reads::audio_part(state, audio, dest, code)
+        engine_reads::audio_part(state, audio, dest)
     }
 
     // The "from" rows of the last block's chunks.
-    pub fn from_part<'a>(self, values: &'a [f32], dest: usize, code: &mut u8) -> &'a [f32]
-        ensures { (result.now ≡ (from_part self.state values.now dest).numbers)
-            × (code.new ≡ (from_part self.state values.now dest).code) }
+    pub fn from_part<'a>(self, values: &'a [f32], dest: usize) -> Result<&'a [f32], Refusal>
+        ensures { part_said result ≡ from_part self.state values.now dest }
     {
         let state = self.state;
-        engine_reads::from_part(state, values, dest, code)
+        engine_reads::from_part(state, values, dest)
     }
 
     // Their "to" rows.
-    pub fn to_part<'a>(self, values: &'a [f32], dest: usize, code: &mut u8) -> &'a [f32]
-        ensures { (result.now ≡ (to_part self.state values.now dest).numbers)
-            × (code.new ≡ (to_part self.state values.now dest).code) }
+    pub fn to_part<'a>(self, values: &'a [f32], dest: usize) -> Result<&'a [f32], Refusal>
+        ensures { part_said result ≡ to_part self.state values.now dest }
     {
         let state = self.state;
-        engine_reads::to_part(state, values, dest, code)
+        engine_reads::to_part(state, values, dest)
     }
 
     // How many chunks the last nonempty block made.
@@ -651,8 +644,8 @@ impl Engine {
         engine_reads::chunk_count(state)
     }
 
-    // Chunk i of them.
-    pub fn chunk(self, i: usize) -> ChunkRead
+    // Chunk i of them, where there is one.
+    pub fn chunk(self, i: usize) -> Option<Chunk>
         ensures value { result ≡ chunk_at self.state i }
         ensures reply { chunk_reply result ≡ chunk_says self.state i }
     {
@@ -661,37 +654,59 @@ impl Engine {
     }
 
     // The number at a frame, of an audio plan.
-    pub fn at(self, audio: &[f32], dest: usize, frame: usize, voice: usize) -> Reading
-        ensures value { result ≡ audio_at self.state audio.now dest frame voice }
-        ensures reply { reading_reply result ≡ at_says self.state audio.now dest frame voice }
+    pub fn at(
+        self,
+        audio: &[f32],
+        dest: usize,
+        frame: usize,
+        voice: usize,
+    ) -> Result<Option<f32>, Refusal>
+        ensures value { reading_said result ≡ audio_at self.state audio.now dest frame voice }
+        ensures reply { reading_reply (reading_said result) ≡ at_says self.state audio.now dest frame voice }
     {
         let state = self.state;
         engine_reads::at(state, audio, dest, frame, voice)
     }
 
     // The row at a frame, of an audio plan.
-    pub fn frame<'a>(self, audio: &'a [f32], dest: usize, frame: usize, code: &mut u8) -> &'a [f32]
-        ensures { (result.now ≡ (frame_part self.state audio.now dest frame).numbers)
-            × (code.new ≡ (frame_part self.state audio.now dest frame).code) }
+    pub fn frame<'a>(
+        self,
+        audio: &'a [f32],
+        dest: usize,
+        frame: usize,
+    ) -> Result<&'a [f32], Refusal>
+        ensures { part_said result ≡ frame_part self.state audio.now dest frame }
     {
         let state = self.state;
-        engine_reads::audio_frame(state, audio, dest, frame, code)
+        engine_reads::audio_frame(state, audio, dest, frame)
     }
 
     // The number after a chunk, of a control plan.
-    pub fn value(self, values: &[f32], dest: usize, chunk: usize, voice: usize) -> Reading
-        ensures value { result ≡ control_value self.state values.now dest chunk voice }
-        ensures reply { reading_reply result ≡ value_says self.state values.now dest chunk voice }
+    pub fn value(
+        self,
+        values: &[f32],
+        dest: usize,
+        chunk: usize,
+        voice: usize,
+    ) -> Result<Option<f32>, Refusal>
+        ensures value { reading_said result ≡ control_value self.state values.now dest chunk voice }
+        ensures reply { reading_reply (reading_said result) ≡ value_says self.state values.now dest chunk voice }
     {
         let state = self.state;
         engine_reads::value(state, values, dest, chunk, voice)
     }
 
     // The ramp of a control plan over the last block, a number a frame.
-    pub fn ramp(self, values: &[f32], dest: usize, voice: usize, out: &mut [f32]) -> Ramped
-        ensures value { (result ≡ (ramp_of self.state values.now dest voice out.old).answer)
+    pub fn ramp(
+        self,
+        values: &[f32],
+        dest: usize,
+        voice: usize,
+        out: &mut [f32],
+    ) -> Result<Option<usize>, Refusal>
+        ensures value { (ramped_said result ≡ (ramp_of self.state values.now dest voice out.old).answer)
             × (out.new ≡ (ramp_of self.state values.now dest voice out.old).out) }
-        ensures reply { ramped_reply result ≡ ramp_says self.state values.now dest voice
+        ensures reply { ramped_reply (ramped_said result) ≡ ramp_says self.state values.now dest voice
             out.old }
     {
         let state = self.state;
@@ -699,9 +714,15 @@ impl Engine {
     }
 
     // The number after the last chunk, or at its last frame.
-    pub fn latest(self, values: &[f32], audio: &[f32], dest: usize, voice: usize) -> Reading
-        ensures value { result ≡ latest_of self.state values.now audio.now dest voice }
-        ensures reply { reading_reply result ≡ latest_says self.state values.now
+    pub fn latest(
+        self,
+        values: &[f32],
+        audio: &[f32],
+        dest: usize,
+        voice: usize,
+    ) -> Result<Option<f32>, Refusal>
+        ensures value { reading_said result ≡ latest_of self.state values.now audio.now dest voice }
+        ensures reply { reading_reply (reading_said result) ≡ latest_says self.state values.now
             audio.now dest voice }
     {
         let state = self.state;
@@ -709,8 +730,14 @@ impl Engine {
     }
 
     // The latest number of every destination for each of so many voices.
-    pub fn latest_all(self, values: &[f32], audio: &[f32], voices: usize, out: &mut [f32]) -> u8
-        ensures { (result ≡ (latest_all self.state values.now audio.now voices
+    pub fn latest_all(
+        self,
+        values: &[f32],
+        audio: &[f32],
+        voices: usize,
+        out: &mut [f32],
+    ) -> Result<(), Refusal>
+        ensures { (code_of result ≡ (latest_all self.state values.now audio.now voices
             out.old).code) × (out.new ≡ (latest_all self.state values.now
             audio.now voices out.old).out) }
     {

@@ -6,6 +6,7 @@ ghost use Rattle.std.specs.Prelude.{◌≡◌, true, cond, not, ◌||◌, [], �
 ghost use Rattle.config.specs.Sizes.{most_sources, most_voices, lane_stride};
 ghost use Rattle.draw.specs.Xorshift.{step, draw_of};
 ghost use Rattle.refusal.specs.Judge.{judged, ◌when◌};
+ghost use Rattle.refusal.specs.Refusal.{code_of};
 ghost use Rattle.curve_table.specs.Table.{cell_of, part_of, between, diagonal_at, lookup_of};
 ghost use Rattle.list.specs.Rows.{row_at};
 ghost use Rattle.slots_tables.specs.Tables.{places, tables_need};
@@ -17,6 +18,7 @@ ghost use Rattle.engine_notes.specs.Noting.{alternates_in, value_in, notes_with,
 
 use config::{SOURCES, VOICES};
 use curve_table::POINTS;
+use refusal::Refusal;
 use slots_tables::TABLES;
 use state::{Kind, NoteCurve, SourceMark};
 use voice::{Legato, Marks, Notes, Voices};
@@ -89,10 +91,7 @@ pub fn held_short(len: usize, sources: usize, voices: usize) -> bool
 pub fn tables_short(len: usize, tabled: bool) -> bool
     ensures { result ≡ ltb len (cond tabled tables_need 0) }
 {
-    if !tabled {
-        return false;
-    }
-    len < TABLES
+    tabled && len < TABLES
 }
 
 // whether either memory of a note-on is too short
@@ -100,26 +99,23 @@ pub fn memory_short(held: usize, tables: usize, sources: usize, voices: usize, t
     ensures { result ≡ ltb held (lane_stride (min voices most_voices) * min sources most_sources)
         || ltb tables (cond tabled tables_need 0) }
 {
-    if held_short(held, sources, voices) {
-        return true;
-    }
-    tables_short(tables, tabled)
+    held_short(held, sources, voices) || tables_short(tables, tabled)
 }
 
 // rows 2, 6 and 14 of a note call
-pub fn code(missing: bool, finite: bool, short: bool) -> u8
-    ensures { result ≡ judged (2 when missing ∷ 6 when not finite ∷ 14 when short ∷ []) }
+pub fn code(missing: bool, finite: bool, short: bool) -> Result<(), Refusal>
+    ensures { code_of result ≡ judged (2 when missing ∷ 6 when not finite ∷ 14 when short ∷ []) }
 {
     if missing {
-        return 2;
+        return Err(Refusal::Voice);
     }
     if !finite {
-        return 6;
+        return Err(Refusal::Number);
     }
     if short {
-        return 14;
+        return Err(Refusal::Memory);
     }
-    0
+    Ok(())
 }
 
 // ---- note curves
@@ -183,6 +179,7 @@ fn alternate_kind(inverse: bool) -> u8
 }
 
 // a kind's number, or 0 where a note does not write it
+// Not an enum: laws of the crate (proofs/KindNumbers) speak of the numbers.
 fn note_kind(kind: Kind) -> u8
     ensures { result ≡ note_kind kind }
 {
@@ -229,11 +226,9 @@ pub fn write_kind(held: &mut [f32], mark: [SourceMark; SOURCES], lane: Lane, kin
     ensures { held.new ≡ held_in mark lane kind x lane.sources held.old }
 {
     let sources = lane.sources;
-    let mut i = 0usize;
-    while i < sources {
+    for i in 0..sources {
         let m = mark[i];
         put(held, kind_of(m) == kind, place(lane, i), x);
-        i += 1usize;
     }
 }
 
@@ -265,14 +260,12 @@ pub fn write_randoms(held: &mut [f32], mark: [SourceMark; SOURCES], lane: Lane, 
 {
     let sources = lane.sources;
     let mut last = draw;
-    let mut i = 0usize;
-    while i < sources {
+    for i in 0..sources {
         let m = mark[i];
         let on = kind_of(m) == RANDOM;
         let next = stepped(on, last);
         put_draw(held, on, place(lane, i), next);
         last = next;
-        i += 1usize;
     }
     last
 }
@@ -301,8 +294,7 @@ pub fn write_alternates(held: &mut [f32], mark: [SourceMark; SOURCES], lane: Lan
     ensures { held.new ≡ alternates_in mark lane on lane.sources held.old }
 {
     let sources = lane.sources;
-    let mut i = 0usize;
-    while i < sources {
+    for i in 0..sources {
         let m = mark[i];
         let kind = kind_of(m);
         put(
@@ -311,7 +303,6 @@ pub fn write_alternates(held: &mut [f32], mark: [SourceMark; SOURCES], lane: Lan
             place(lane, i),
             alternate_by(kind, on),
         );
-        i += 1usize;
     }
 }
 
@@ -455,7 +446,7 @@ pub fn note_on(
 }
 
 // A voice stops sounding.
-fn stopped(sounding: Sounding, voice: usize) -> Sounding
+pub fn ended(sounding: Sounding, voice: usize) -> Sounding
     ensures { result ≡ sound_ended sounding voice }
 {
     let voices = sounding.voices;
@@ -472,46 +463,10 @@ fn stopped(sounding: Sounding, voice: usize) -> Sounding
     }
 }
 
-// ---- a call with that number: it does something where it is accepted
-
-// A note starts in the lane.
-pub fn started(
-    code: u8,
-    held: &mut [f32],
-    mark: [SourceMark; SOURCES],
-    lane: Lane,
-    sounding: Sounding,
-    setting: Setting,
-) -> Sounding
-    requires { code ≡ 0 → Inside lane }
-    ensures { (result ≡ cond (eqb code 0) (sound_on mark lane sounding setting) sounding)
-        × (held.new ≡ cond (eqb code 0) (held_on mark lane sounding setting held.old)
-        held.old) }
-{
-    if code != 0 {
-        return sounding;
-    }
-    note_on(held, mark, lane, sounding, setting)
-}
-
 // The release velocity of the lane's note.
-pub fn released(code: u8, held: &mut [f32], mark: [SourceMark; SOURCES], lane: Lane, x: f32)
-    requires { code ≡ 0 → Inside lane }
-    ensures { held.new ≡ cond (eqb code 0) (held_in mark lane 3 x lane.sources held.old)
-        held.old }
+pub fn released(held: &mut [f32], mark: [SourceMark; SOURCES], lane: Lane, x: f32)
+    requires { Inside lane }
+    ensures { held.new ≡ held_in mark lane 3 x lane.sources held.old }
 {
-    if code != 0 {
-        return;
-    }
     write_kind(held, mark, lane, RELEASE, x);
-}
-
-// What sounds once the voice has stopped.
-pub fn ended(code: u8, sounding: Sounding, voice: usize) -> Sounding
-    ensures { result ≡ cond (eqb code 0) (sound_ended sounding voice) sounding }
-{
-    if code != 0 {
-        return sounding;
-    }
-    stopped(sounding, voice)
 }

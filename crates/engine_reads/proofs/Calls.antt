@@ -11,7 +11,7 @@ use lib.Ieee.{Float, nan}
 use Rattle.refusal.specs.Judge.{Row, ◌when◌, judged}
 use Rattle.config.specs.Sizes.{most_voices}
 use Rattle.state.specs.declared.State.{State}
-use Rattle.state.specs.declared.Reading.TheVariants as R
+use Rattle.state.specs.Reading as R
 use Rattle.model.specs.Counts.{voice_count, frame_count, plan_at}
 use Rattle.model.specs.Chunks.{chunk_total}
 use Rattle.model.specs.NoteCalls.{voice_row}

@@ -12,6 +12,7 @@ use lib.Dec.{ltb}
 use lib.ListN.{length, get_or, drop, length-append}
 use lib.Seq.{take_at, drop_at, drop-drop}
 use lib.Ieee.{Float, nan}
+use Rattle.std.specs.Prelude.{Option, Some, None}
 use Rattle.feed.specs.Numbers.{up_from}
 use Rattle.list.specs.Fill.{fill}
 use Rattle.list.specs.Part.{on_part}
@@ -34,13 +35,13 @@ use Rattle.engine_reads.proofs.Tables.{table, table-length, table_at}
 -- ---- what is last
 
 module _ (b : Block) {n f : ℕ} (e : n ≡ chunk_total b) (g : f ≡ b.end - 1) where
-  pub last_none : n ≡ 0 → ◌≡◌ {A = Last} (record { some = false; chunk = 0; frame = f }) (last_of b)
+  pub last_none : n ≡ 0 → None ≡ last_of b
   unfolding last_of
   last_none z =
       let t : chunk_total b ≡ 0 = sym e ∙ z in
-      rw (t, g)
+      rw t
 
-  pub last_some : (n ≡ 0 → ⊥) → ◌≡◌ {A = Last} (record { some = true; chunk = n - 1; frame = f }) (last_of b)
+  pub last_some : (n ≡ 0 → ⊥) → Some (record { chunk = n - 1; frame = f }) ≡ last_of b
   unfolding last_of
   last_some h = rw (lt-ltb 0 (chunk_total b) (omega arith), g, e)
 
@@ -88,37 +89,48 @@ fill-alike l f g zero h = refl
 fill-alike l f g (suc n) h = rw (fill-alike l f g n h, h n)
 
 -- by what is known of the destination and of the last block
-module _ (values audio : List Float) (s : Spot) (t : Last) (active : List Bool) (n : ℕ) (l : List Float) where
-  pub by-none : t.some ≡ false → fill l (λ (k : ℕ). nan) (length l) ≡ fill l (latest_by values audio s t active n) (length l)
+module _ (values audio : List Float) (s : Spot) (o : Option Last) (active : List Bool) (n : ℕ) (l : List Float) where
+  pub by-none : o ≡ None → fill l (λ (k : ℕ). nan) (length l) ≡ fill l (latest_by values audio s o active n) (length l)
   unfolding latest_by
-  by-none h = fill-alike l (λ (k : ℕ). nan) (latest_by values audio s t active n) (length l) (λ k. rw h)
+  by-none h = fill-alike l (λ (k : ℕ). nan) (latest_by values audio s o active n) (length l) (λ k. rw h)
 
-  pub by-audio : t.some ≡ true → s.audio ≡ true
-      → fill l (lane_number audio s.rows s t.frame active n) (length l) ≡ fill l (latest_by values audio s t active n) (length l)
-  unfolding latest_by
-  by-audio h a =
-      fill-alike l (lane_number audio s.rows s t.frame active n) (latest_by values audio s t active n) (length l) (λ k. rw (h, a))
+  module _ (t : Last) where
+    pub by-audio : o ≡ Some t → s.audio ≡ true
+        → fill l (lane_number audio s.rows s t.frame active n) (length l) ≡ fill l (latest_by values audio s o active n) (length l)
+    unfolding latest_by
+    by-audio h a =
+        fill-alike l (lane_number audio s.rows s t.frame active n) (latest_by values audio s o active n) (length l) (λ k. rw (h, a))
 
-  pub by-control : t.some ≡ true → s.audio ≡ false → s.control ≡ true
-      → fill l (lane_number values s.to s t.chunk active n) (length l) ≡ fill l (latest_by values audio s t active n) (length l)
-  unfolding latest_by
-  by-control h a c =
-      fill-alike l (lane_number values s.to s t.chunk active n) (latest_by values audio s t active n) (length l) (λ k. rw (h, a, c))
+    pub by-control : o ≡ Some t → s.audio ≡ false → s.control ≡ true
+        → fill l (lane_number values s.to s t.chunk active n) (length l) ≡ fill l (latest_by values audio s o active n) (length l)
+    unfolding latest_by
+    by-control h a c =
+        fill-alike l (lane_number values s.to s t.chunk active n) (latest_by values audio s o active n) (length l) (λ k. rw (h, a, c))
 
-  pub by-neither : t.some ≡ true → s.audio ≡ false → s.control ≡ false
-      → fill l (λ (k : ℕ). nan) (length l) ≡ fill l (latest_by values audio s t active n) (length l)
-  unfolding latest_by
-  by-neither h a c = fill-alike l (λ (k : ℕ). nan) (latest_by values audio s t active n) (length l) (λ k. rw (h, a, c))
+    pub by-neither : o ≡ Some t → s.audio ≡ false → s.control ≡ false
+        → fill l (λ (k : ℕ). nan) (length l) ≡ fill l (latest_by values audio s o active n) (length l)
+    unfolding latest_by
+    by-neither h a c = fill-alike l (λ (k : ℕ). nan) (latest_by values audio s o active n) (length l) (λ k. rw (h, a, c))
 
 module _ (st : State) (values audio : List Float) (d : ℕ) (s : Spot) (q : s ≡ spot_of st d) where
+  -- where there is a last chunk
+  by-last : (b : Bool) (l : Last) (v : ℕ) → latest_by values audio s (cond b (Some l) None) st.voices.active (voice_count st) v
+      ≡ cond b
+      (cond s.audio (lane_number audio s.rows s l.frame st.voices.active (voice_count st) v)
+      (cond s.control (lane_number values s.to s l.chunk st.voices.active (voice_count st) v) nan))
+      nan
+  unfolding latest_by
+  by-last true l v = refl
+  by-last false l v = refl
+
   latest-is : (v : ℕ) → latest_by values audio s (last_of st.block) st.voices.active (voice_count st) v ≡ latest_in st values audio d v
-  unfolding latest_by last_of lane_number is_sounding
+  unfolding last_of lane_number is_sounding
   latest-is v =
-      rw (audio-is st d s q, control-is st d s q, audio-number-is st d s q audio (st.block.end - 1) v, to-number-is st d s q values (chunk_total st.block - 1) v)
+      rw (by-last (ltb 0 (chunk_total st.block)) (record { chunk = chunk_total st.block - 1; frame = st.block.end - 1 }) v, audio-is st d s q, control-is st d s q, audio-number-is st d s q audio (st.block.end - 1) v, to-number-is st d s q values (chunk_total st.block - 1) v)
       (pick (has_plan st d) (plan_at st (plan_place st d)).audio (ltb 0 (chunk_total st.block)) (ltb v (voice_count st) && get_or st.voices.active v false)
       (audio_number st audio d (st.block.end - 1) v) (to_number st values d (chunk_total st.block - 1) v))
 
-  pub row_is : (l : List Float) (n : ℕ) → length l ≡ n → {last : Last} → last ≡ last_of st.block → {c : ℕ} → c ≡ voice_count st
+  pub row_is : (l : List Float) (n : ℕ) → length l ≡ n → {last : Option Last} → last ≡ last_of st.block → {c : ℕ} → c ≡ voice_count st
       → fill l (latest_by values audio s last st.voices.active c) (length l) ≡ latest_row st values audio n d
   row_is l n e p r = rw (p, r) (fill-up l (latest_by values audio s (last_of st.block) st.voices.active (voice_count st)) (latest_in st values audio d) n e latest-is)
 

@@ -7,3 +7,4 @@ pub mod Calls
 pub mod Tables
 pub mod Ramps
 pub mod Latests
+pub mod Shapes

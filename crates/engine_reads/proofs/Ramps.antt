@@ -18,7 +18,7 @@ use Rattle.list.specs.Fill.{fill}
 use Rattle.list.specs.Part.{on_part}
 use Rattle.state.specs.declared.Block.{Block}
 use Rattle.state.specs.declared.State.{State}
-use Rattle.state.specs.declared.Ramped.TheVariants as M
+use Rattle.state.specs.Ramped as M
 use Rattle.block_chunks.proofs.Chunks.{total-nonempty}
 use Rattle.model.specs.Chunks.{chunk_total, chunk_start, chunk_phase, chunk_of, chunk_list}
 use Rattle.model.specs.Counts.{voice_count, at}

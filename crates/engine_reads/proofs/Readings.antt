@@ -8,8 +8,15 @@ use borrow.Author.Tests.{ne_eqb, leb-false}
 use lib.Dec.{leb}
 use lib.Ieee.{Float}
 use Rattle.refusal.specs.Judge.{Row, ◌when◌, judged}
-use Rattle.state.specs.declared.Reading.TheVariants as R
+use Rattle.refusal.specs.Refusal.{number_of}
+use Rattle.refusal.specs.declared.Refusal.{Refusal}
+use Rattle.refusal.proofs.Laws.{number-above}
+use Rattle.state.specs.Reading as R
 use Rattle.model.specs.Outputs.{reading_by}
+
+-- a refusal's number is not that of an accepted call
+pub number-taken : (r : Refusal) → number_of r ≡ 0 → ⊥
+number-taken r z = let a : 0 < number_of r = number-above r in omega arith
 
 module _ (rows : List Row) (b : Bool) (x : Float) {code : ℕ} (e : code ≡ judged rows) where
   pub read-refused : (code ≡ 0 → ⊥) → R.Refused code ≡ reading_by rows b x

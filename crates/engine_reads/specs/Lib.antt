@@ -1,3 +1,4 @@
 pub mod Spot
 pub mod Ramp
 pub mod Latest
+pub mod Said

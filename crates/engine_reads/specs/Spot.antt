@@ -3,11 +3,11 @@
 use Rattle.std.specs.Prelude.{cond, ℕ, ◌+◌, ◌*◌, ◌≤◌}
 use Rattle.config.specs.Sizes.{slots, most_frames, most_stride}
 use Rattle.state.specs.declared.State.{State}
-use Rattle.state.specs.declared.Output.{Output}
-use Rattle.state.specs.declared.Output.TheVariants as O
 use Rattle.model.specs.Counts.{frame_count, stride_of, chunks_most, plan_at}
 use Rattle.model.specs.Layout.{plan_size, audio_size}
 use Rattle.model.specs.Outputs.{plan_place, is_audio_plan, is_control_plan, width_of}
+use Rattle.engine_reads.specs.declared.Output.{Output}
+use Rattle.engine_reads.specs.declared.Output.TheVariants as O
 use Rattle.engine_reads.specs.declared.Spot.{Spot}
 
 unfoldable pub spot_of : State → ℕ → Spot

@@ -8,6 +8,7 @@ ghost use Rattle.config.specs.Sizes.{slots, period, most_voices, most_frames, mo
 ghost use Rattle.config.specs.Sizes.{most_chunks};
 ghost use Rattle.feed.specs.Numbers.{up_from};
 ghost use Rattle.refusal.specs.Judge.{judged, ◌when◌};
+ghost use Rattle.refusal.specs.Refusal.{code_of};
 ghost use Rattle.list.specs.Fill.{fill};
 ghost use Rattle.list.specs.Part.{part, on_part};
 ghost use Rattle.state_filled.specs.Filled.{no_plan};
@@ -20,9 +21,11 @@ ghost use Rattle.model.specs.Outputs.{latest_rows, latest_all};
 ghost use Rattle.engine_reads.specs.Spot.{spot_of, shape_by, most_start, Bounded};
 ghost use Rattle.engine_reads.specs.Ramp.{ramp_number};
 ghost use Rattle.engine_reads.specs.Latest.{last_of, lane_number, latest_by};
+ghost use Rattle.engine_reads.specs.Said.{output_said, part_said, reading_said, ramped_said};
 
 use config::{DESTINATIONS, FRAMES, PERIOD, SLOTS, VOICES};
-use state::{Block, ChunkRead, Output, Plan, Ramped, Reading, State};
+use refusal::Refusal;
+use state::{Block, Chunk, Plan, State};
 
 // ---- counts and needs
 
@@ -70,16 +73,16 @@ fn audio_short(state: State, len: usize) -> bool
 }
 
 // rows 2 and 14
-fn code(voices: usize, voice: usize, short: bool) -> u8
-    ensures { result ≡ judged (2 when leb (min voices most_voices) voice ∷ 14 when short ∷ []) }
+fn judge(voices: usize, voice: usize, short: bool) -> Result<(), Refusal>
+    ensures { code_of result ≡ judged (2 when leb (min voices most_voices) voice ∷ 14 when short ∷ []) }
 {
     if voice_count(voices) <= voice {
-        return 2;
+        return Err(Refusal::Voice);
     }
     if short {
-        return 14;
+        return Err(Refusal::Memory);
     }
-    0
+    Ok(())
 }
 
 // ---- the plan of a destination
@@ -89,15 +92,10 @@ fn plan_place(plan: [Plan; SLOTS], plans: usize, dest: usize) -> usize
     requires { plans ≤ slots }
     ensures { (result ≡ plan_of dest (take plans plan)) × (result ≤ plans) }
 {
-    let mut i = 0;
-    while i < plans {
-        let p = plan[i];
-        if p.dest as usize == dest {
-            return i;
-        }
-        i += 1;
-    }
-    plans
+    plan[..plans]
+        .iter()
+        .position(|p| p.dest as usize == dest)
+        .unwrap_or(plans)
 }
 
 // whether plan i runs at audio rate
@@ -271,15 +269,24 @@ pub fn chunk_count(state: State) -> usize
     block_chunks::total(block)
 }
 
-// chunk i of the last block
-pub fn chunk_at(state: State, i: usize) -> ChunkRead
+// chunk i of the last block, where it made so many
+pub fn chunk_at(state: State, i: usize) -> Option<Chunk>
     ensures { result ≡ chunk_at state i }
 {
     let block = state.block;
     if block_chunks::total(block) <= i {
-        return ChunkRead::Nothing;
+        return None;
     }
-    ChunkRead::Chunk(block_chunks::of(block, i))
+    Some(block_chunks::of(block, i))
+}
+
+// The shape of a destination's output: no rows, rows of that width at audio rate, or at control rate with so many
+// chunks.
+#[derive(Clone, Copy)]
+pub enum Output {
+    Unmodulated,
+    Audio { width: usize },
+    Control { width: usize, chunks: usize },
 }
 
 // the shape of an output
@@ -309,14 +316,19 @@ fn short(state: State, values: usize, audio: usize) -> bool
 }
 
 // the shape of the output of dest
-pub fn output(state: State, values: &[f32], audio: &[f32], dest: usize) -> Output
-    ensures { result ≡ output_of state values.now audio.now dest }
+pub fn output_shape(
+    state: State,
+    values: &[f32],
+    audio: &[f32],
+    dest: usize,
+) -> Result<Output, Refusal>
+    ensures { output_said result ≡ output_of state values.now audio.now dest }
 {
     if short(state, values.len(), audio.len()) {
-        return Output::Refused(14);
+        return Err(Refusal::Memory);
     }
     let spot = spot_of(state, dest);
-    shape(spot, chunk_count(state))
+    Ok(shape(spot, chunk_count(state)))
 }
 
 // the last frame of a block, 0 of an empty one
@@ -340,75 +352,84 @@ fn number_of(mem: &[f32], a: usize, spot: Spot, k: usize, voice: usize) -> f32
 }
 
 // the number at a frame of the audio plan of dest
-pub fn at(state: State, audio: &[f32], dest: usize, frame: usize, voice: usize) -> Reading
-    ensures { result ≡ audio_at state audio.now dest frame voice }
+pub fn at(
+    state: State,
+    audio: &[f32],
+    dest: usize,
+    frame: usize,
+    voice: usize,
+) -> Result<Option<f32>, Refusal>
+    ensures { reading_said result ≡ audio_at state audio.now dest frame voice }
 {
     let config = state.config;
-    let code = code(config.voices, voice, audio_short(state, audio.len()));
-    if code != 0 {
-        return Reading::Refused(code);
-    }
+    judge(config.voices, voice, audio_short(state, audio.len()))?;
     let spot = spot_of(state, dest);
     if !spot.audio {
-        return Reading::Nothing;
+        return Ok(None);
     }
     if frame_count(config.max_frames) <= frame {
-        return Reading::Nothing;
+        return Ok(None);
     }
-    Reading::Value(number_of(audio, spot.rows, spot, frame, voice))
+    Ok(Some(number_of(audio, spot.rows, spot, frame, voice)))
 }
 
 // the "to" of a chunk of the control plan of dest
-pub fn value(state: State, values: &[f32], dest: usize, chunk: usize, voice: usize) -> Reading
-    ensures { result ≡ control_value state values.now dest chunk voice }
+pub fn value(
+    state: State,
+    values: &[f32],
+    dest: usize,
+    chunk: usize,
+    voice: usize,
+) -> Result<Option<f32>, Refusal>
+    ensures { reading_said result ≡ control_value state values.now dest chunk voice }
 {
     let config = state.config;
-    let code = code(config.voices, voice, values_short(state, values.len()));
-    if code != 0 {
-        return Reading::Refused(code);
-    }
+    judge(config.voices, voice, values_short(state, values.len()))?;
     let spot = spot_of(state, dest);
     if !spot.control {
-        return Reading::Nothing;
+        return Ok(None);
     }
     if chunk_count(state) <= chunk {
-        return Reading::Nothing;
+        return Ok(None);
     }
-    Reading::Value(number_of(values, spot.to, spot, chunk, voice))
+    Ok(Some(number_of(values, spot.to, spot, chunk, voice)))
 }
 
 // the "to" of the last chunk, or the audio number at its last frame
-pub fn latest(state: State, values: &[f32], audio: &[f32], dest: usize, voice: usize) -> Reading
-    ensures { result ≡ latest_of state values.now audio.now dest voice }
+pub fn latest(
+    state: State,
+    values: &[f32],
+    audio: &[f32],
+    dest: usize,
+    voice: usize,
+) -> Result<Option<f32>, Refusal>
+    ensures { reading_said result ≡ latest_of state values.now audio.now dest voice }
 {
     let config = state.config;
-    let code = code(
+    judge(
         config.voices,
         voice,
         short(state, values.len(), audio.len()),
-    );
-    if code != 0 {
-        return Reading::Refused(code);
-    }
+    )?;
     let chunks = chunk_count(state);
     if chunks == 0 {
-        return Reading::Nothing;
+        return Ok(None);
     }
     let spot = spot_of(state, dest);
     if spot.audio {
         let last = last_frame(state.block);
-        return Reading::Value(number_of(audio, spot.rows, spot, last, voice));
+        return Ok(Some(number_of(audio, spot.rows, spot, last, voice)));
     }
     if spot.control {
-        return Reading::Value(number_of(values, spot.to, spot, chunks - 1, voice));
+        return Ok(Some(number_of(values, spot.to, spot, chunks - 1, voice)));
     }
-    Reading::Nothing
+    Ok(None)
 }
 
 // ---- parts
 
 // the row of a short memory
-const SHORT: u8 = 14;
+const SHORT: Refusal = Refusal::Memory;
 
 // nothing of a memory
 fn none(mem: &[f32]) -> &[f32]
@@ -417,22 +438,19 @@ fn none(mem: &[f32]) -> &[f32]
     &mem[0..0]
 }
 
-// the audio rows of dest, and the number of the row by which they are refused
-pub fn audio_part<'a>(state: State, audio: &'a [f32], dest: usize, code: &mut u8) -> &'a [f32]
-    ensures { (result.now ≡ (audio_part state audio.now dest).numbers)
-        × (code.new ≡ (audio_part state audio.now dest).code) }
+// the audio rows of dest
+pub fn audio_part<'a>(state: State, audio: &'a [f32], dest: usize) -> Result<&'a [f32], Refusal>
+    ensures { part_said result ≡ audio_part state audio.now dest }
 {
     if audio_short(state, audio.len()) {
-        *code = SHORT;
-        return none(audio);
+        return Err(SHORT);
     }
-    *code = 0;
     let spot = spot_of(state, dest);
     if !spot.audio {
-        return none(audio);
+        return Ok(none(audio));
     }
     let config = state.config;
-    rows(audio, spot.rows, spot.width, frame_count(config.max_frames))
+    Ok(rows(audio, spot.rows, spot.width, frame_count(config.max_frames)))
 }
 
 // where row k starts, rows of that width from a on
@@ -449,60 +467,50 @@ pub fn audio_frame<'a>(
     audio: &'a [f32],
     dest: usize,
     frame: usize,
-    code: &mut u8,
-) -> &'a [f32]
-    ensures { (result.now ≡ (frame_part state audio.now dest frame).numbers)
-        × (code.new ≡ (frame_part state audio.now dest frame).code) }
+) -> Result<&'a [f32], Refusal>
+    ensures { part_said result ≡ frame_part state audio.now dest frame }
 {
     if audio_short(state, audio.len()) {
-        *code = SHORT;
-        return none(audio);
+        return Err(SHORT);
     }
-    *code = 0;
     let spot = spot_of(state, dest);
     if !spot.audio {
-        return none(audio);
+        return Ok(none(audio));
     }
     let config = state.config;
     if frame_count(config.max_frames) <= frame {
-        return none(audio);
+        return Ok(none(audio));
     }
     let width = spot.width;
-    part(audio, row_start(spot.rows, width, frame), width)
+    Ok(part(audio, row_start(spot.rows, width, frame), width))
 }
 
 // the "from" rows of the chunks of dest
-pub fn from_part<'a>(state: State, values: &'a [f32], dest: usize, code: &mut u8) -> &'a [f32]
-    ensures { (result.now ≡ (from_part state values.now dest).numbers)
-        × (code.new ≡ (from_part state values.now dest).code) }
+pub fn from_part<'a>(state: State, values: &'a [f32], dest: usize) -> Result<&'a [f32], Refusal>
+    ensures { part_said result ≡ from_part state values.now dest }
 {
     if values_short(state, values.len()) {
-        *code = SHORT;
-        return none(values);
+        return Err(SHORT);
     }
-    *code = 0;
     let spot = spot_of(state, dest);
     if !spot.control {
-        return none(values);
+        return Ok(none(values));
     }
-    rows(values, spot.from, spot.width, chunk_count(state))
+    Ok(rows(values, spot.from, spot.width, chunk_count(state)))
 }
 
 // their "to" rows
-pub fn to_part<'a>(state: State, values: &'a [f32], dest: usize, code: &mut u8) -> &'a [f32]
-    ensures { (result.now ≡ (to_part state values.now dest).numbers)
-        × (code.new ≡ (to_part state values.now dest).code) }
+pub fn to_part<'a>(state: State, values: &'a [f32], dest: usize) -> Result<&'a [f32], Refusal>
+    ensures { part_said result ≡ to_part state values.now dest }
 {
     if values_short(state, values.len()) {
-        *code = SHORT;
-        return none(values);
+        return Err(SHORT);
     }
-    *code = 0;
     let spot = spot_of(state, dest);
     if !spot.control {
-        return none(values);
+        return Ok(none(values));
     }
-    rows(values, spot.to, spot.width, chunk_count(state))
+    Ok(rows(values, spot.to, spot.width, chunk_count(state)))
 }
 
 // ---- ramps
@@ -538,10 +546,8 @@ fn write_ramp(
     ensures { out.new ≡ fill out.old
         (λ k. ramp_number values.now spot voice (phase + k)) frames }
 {
-    let mut k = 0usize;
-    while k < frames {
+    for k in 0..frames {
         out[k] = ramp_number(values, spot, voice, phase + k);
-        k += 1usize;
     }
 }
 
@@ -569,57 +575,54 @@ fn ramp_short(state: State, values: usize, out: usize) -> bool
 }
 
 // the ramp of the control plan of dest over the last block, a number a frame
-pub fn ramp(state: State, values: &[f32], dest: usize, voice: usize, out: &mut [f32]) -> Ramped
-    ensures { (result ≡ (ramp_of state values.now dest voice out.old).answer)
+pub fn ramp(
+    state: State,
+    values: &[f32],
+    dest: usize,
+    voice: usize,
+    out: &mut [f32],
+) -> Result<Option<usize>, Refusal>
+    ensures { (ramped_said result ≡ (ramp_of state values.now dest voice out.old).answer)
         × (out.new ≡ (ramp_of state values.now dest voice out.old).out) }
 {
     let config = state.config;
-    let code = code(
+    judge(
         config.voices,
         voice,
         ramp_short(state, values.len(), out.len()),
-    );
-    if code != 0 {
-        return Ramped::Refused(code);
-    }
+    )?;
     let spot = spot_of(state, dest);
     if !spot.control {
-        return Ramped::Nothing;
+        return Ok(None);
     }
     let block = state.block;
     let frames = frames_of(block);
     write_ramp(values, spot, voice, block.phase % PERIOD, frames, out);
-    Ramped::Filled(frames)
+    Ok(Some(frames))
 }
 
 // ---- every destination's latest number
 
-// What is latest: whether there is a chunk, its number and its last frame.
+// The last chunk of a block: its number and its last frame.
 #[derive(Clone, Copy)]
 pub struct Last {
-    pub some: bool,
     pub chunk: usize,
     pub frame: usize,
 }
 
-// of a block
-fn last_of(block: Block) -> Last
+// of a block, where it made a chunk
+fn last_of(block: Block) -> Option<Last>
     ensures { result ≡ last_of block }
 {
     let chunks = block_chunks::total(block);
     let frame = last_frame(block);
     if chunks == 0 {
-        return Last {
-            some: false,
-            chunk: 0,
-            frame,
-        };
+        return None;
     }
-    Last {
-        some: true,
+    Some(Last {
         chunk: chunks - 1,
         frame,
-    }
+    })
 }
 
 // whether v is an active voice
@@ -666,10 +669,8 @@ fn write_lanes(
     ensures { out.new ≡ fill out.old
         (lane_number mem.now a spot k active voices) (length out.old) }
 {
-    let mut v = 0usize;
-    while v < out.len() {
+    for v in 0..out.len() {
         out[v] = lane_number(mem, a, spot, k, active, voices, v);
-        v += 1usize;
     }
 }
 
@@ -686,7 +687,7 @@ fn write_latest(
     values: &[f32],
     audio: &[f32],
     spot: Spot,
-    last: Last,
+    last: Option<Last>,
     active: [bool; VOICES],
     voices: usize,
     out: &mut [f32],
@@ -696,10 +697,10 @@ fn write_latest(
         (latest_by values.now audio.now spot last active voices)
         (length out.old) }
 {
-    if !last.some {
+    let Some(last) = last else {
         write_none(out);
         return;
-    }
+    };
     if spot.audio {
         write_lanes(audio, spot.rows, spot, last.frame, active, voices, out);
         return;
@@ -741,12 +742,10 @@ fn write_rows(state: State, values: &[f32], audio: &[f32], n: usize, dests: usiz
     ensures { out.new ≡ on_part out.old 0 (n * dests)
         (latest_rows state values.now audio.now n (up_from 0 dests)) }
 {
-    let mut d = 0usize;
-    while d < dests {
+    for d in 0..dests {
         let a = d * n;
         let e = a + n;
         write_row(state, values, audio, d, out, a, e);
-        d += 1usize;
     }
 }
 
@@ -771,19 +770,25 @@ fn out_short(len: usize, n: usize, dests: usize) -> bool
 }
 
 // every destination's latest number for each of so many voices
-pub fn latest_all(state: State, values: &[f32], audio: &[f32], voices: usize, out: &mut [f32]) -> u8
-    ensures { (result ≡ (latest_all state values.now audio.now voices
+pub fn latest_all(
+    state: State,
+    values: &[f32],
+    audio: &[f32],
+    voices: usize,
+    out: &mut [f32],
+) -> Result<(), Refusal>
+    ensures { (code_of result ≡ (latest_all state values.now audio.now voices
         out.old).code) × (out.new ≡ (latest_all state values.now
         audio.now voices out.old).out) }
 {
     if short(state, values.len(), audio.len()) {
-        return 14;
+        return Err(SHORT);
     }
     let program = state.program;
     let dests = dest_count(program.dests);
     if out_short(out.len(), voices, dests) {
-        return 14;
+        return Err(SHORT);
     }
     write_rows(state, values, audio, voices, dests, out);
-    0
+    Ok(())
 }

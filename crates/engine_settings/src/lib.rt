@@ -2,11 +2,11 @@
 // The definitions are in model's specs/Settings.
 #![tactic(auto)]
 
-ghost use Rattle.std.specs.Prelude.{◌≡◌, false, cond, map, ◌+◌, ◌*◌, ◌<◌, ◌≤◌, min, max, eqb, length, get_or, set};
+ghost use Rattle.std.specs.Prelude.{◌≡◌, cond, map, ◌+◌, ◌*◌, ◌<◌, ◌≤◌, min, max, length, get_or, set};
 ghost use Rattle.std.specs.Prelude.{replicate};
+ghost use Rattle.refusal.specs.Refusal.{code_of};
 ghost use Rattle.config.specs.Sizes.{most_sources, most_destinations, most_voices, most_frames, lane_stride};
 ghost use Rattle.list.specs.Rows.{on_row};
-ghost use Rattle.voice.specs.Marks.{marks_swapped};
 ghost use Rattle.model.specs.Feeds.{is_voice};
 ghost use Rattle.model.specs.World.{no_mark};
 ghost use Rattle.model.specs.Settings.{mark_of, refused_state, with_amount, with_output, same_config, every_finite};
@@ -16,6 +16,7 @@ ghost use Rattle.engine_settings.specs.Codes.{swap_code};
 ghost use Rattle.engine_settings.specs.Fresh.{fresh_of};
 
 use config::{Config, DESTINATIONS, FRAMES, SLOTS, SOURCES, VOICES};
+use refusal::Refusal;
 use state::{Block, Gains, Kind, Program, Scope, Source, SourceMark, State};
 use voice::{Marks, Notes, Voices};
 
@@ -117,12 +118,24 @@ pub fn new_code(
     held: usize,
     globals: usize,
     bases: usize,
-) -> u8
-    ensures { result ≡ new_code config sources dests held globals bases }
+) -> Result<(), Refusal>
+    ensures { code_of result ≡ new_code config sources dests held globals bases }
 {
-    let code = config::code(config.sample_rate, config.max_frames, config.voices);
+    let rate = config.sample_rate;
+    if !number::is_finite(rate) {
+        return Err(Refusal::Number);
+    }
+    if rate <= 0.0 {
+        return Err(Refusal::Range);
+    }
+    if FRAMES < config.max_frames {
+        return Err(Refusal::Range);
+    }
+    if VOICES < config.voices {
+        return Err(Refusal::Range);
+    }
     let short = new_short(config, sources, dests, held, globals, bases);
-    refusal::first(code, refusal::row(short, 14))
+    refusal::when(short, Refusal::Memory)
 }
 
 // rows 3, 6 and 14 of `set_held`
@@ -133,23 +146,23 @@ pub fn held_code(
     globals: usize,
     source: usize,
     value: f32,
-) -> u8
-    ensures { result ≡ held_code config sources held globals source value }
+) -> Result<(), Refusal>
+    ensures { code_of result ≡ held_code config sources held globals source value }
 {
     let n = sources_of(sources);
     if n <= source {
-        return 3;
+        return Err(Refusal::Source);
     }
     if !number::is_finite(value) {
-        return 6;
+        return Err(Refusal::Number);
     }
     if held < held_need(config, sources) {
-        return 14;
+        return Err(Refusal::Memory);
     }
     if globals < n {
-        return 14;
+        return Err(Refusal::Memory);
     }
-    0
+    Ok(())
 }
 
 // rows 2, 3, 6 and 14 of `set_voice_held`
@@ -160,55 +173,56 @@ pub fn voice_held_code(
     source: usize,
     voice: usize,
     value: f32,
-) -> u8
-    ensures { result ≡ voice_held_code config sources held source voice value }
+) -> Result<(), Refusal>
+    ensures { code_of result ≡ voice_held_code config sources held source voice value }
 {
     if stride_of(config) <= voice {
-        return 2;
+        return Err(Refusal::Voice);
     }
     if sources_of(sources) <= source {
-        return 3;
+        return Err(Refusal::Source);
     }
     if !number::is_finite(value) {
-        return 6;
+        return Err(Refusal::Number);
     }
     if held < held_need(config, sources) {
-        return 14;
+        return Err(Refusal::Memory);
     }
-    0
+    Ok(())
 }
 
 // rows 4, 6 and 14 of `set_base`
-pub fn base_code(dests: usize, bases: usize, dest: usize, value: f32) -> u8
-    ensures { result ≡ base_code dests bases dest value }
+pub fn base_code(dests: usize, bases: usize, dest: usize, value: f32) -> Result<(), Refusal>
+    ensures { code_of result ≡ base_code dests bases dest value }
 {
     let n = dests_of(dests);
     if n <= dest {
-        return 4;
+        return Err(Refusal::Destination);
     }
     if !number::is_finite(value) {
-        return 6;
+        return Err(Refusal::Number);
     }
     if bases < n {
-        return 14;
+        return Err(Refusal::Memory);
     }
-    0
+    Ok(())
 }
 
 // rows 5 and 6 of `set_amount` and `set_output`
-pub fn gain_code(slot: usize, value: f32) -> u8
-    ensures { result ≡ gain_code slot value }
+pub fn gain_code(slot: usize, value: f32) -> Result<(), Refusal>
+    ensures { code_of result ≡ gain_code slot value }
 {
     if SLOTS <= slot {
-        return 5;
+        return Err(Refusal::Slot);
     }
     if !number::is_finite(value) {
-        return 6;
+        return Err(Refusal::Number);
     }
-    0
+    Ok(())
 }
 
 // whether the two are alike, the rate by ==
+// No derived equality: rates are floats, and a NaN is no rate.
 fn same_config(a: Config, b: Config) -> bool
     ensures { result ≡ same_config a b }
 {
@@ -226,12 +240,10 @@ fn same_config(a: Config, b: Config) -> bool
 fn every_finite(x: [f32; SLOTS]) -> bool
     ensures { result ≡ every_finite x }
 {
-    let mut i = 0usize;
-    while i < SLOTS {
+    for i in 0..SLOTS {
         if !number::is_finite(x[i]) {
             return false;
         }
-        i += 1usize;
     }
     true
 }
@@ -259,25 +271,25 @@ pub fn swap_code(
     other_sources: usize,
     other_dests: usize,
     routes: usize,
-) -> u8
-    ensures { result ≡ swap_code gains config sources dests other other_sources other_dests routes }
+) -> Result<(), Refusal>
+    ensures { code_of result ≡ swap_code gains config sources dests other other_sources other_dests routes }
 {
     if !gains {
-        return 6;
+        return Err(Refusal::Number);
     }
     if !same_config(config, other) {
-        return 7;
+        return Err(Refusal::OtherConfig);
     }
     if state_filled::held(routes) == 0 {
-        return 0;
+        return Ok(());
     }
     if sources_of(sources) < other_sources {
-        return 8;
+        return Err(Refusal::OtherRegistries);
     }
     if dests_of(dests) < other_dests {
-        return 8;
+        return Err(Refusal::OtherRegistries);
     }
-    0
+    Ok(())
 }
 
 // ---- what is written
@@ -314,113 +326,13 @@ pub fn write_held(
     globals[source] = value;
 }
 
-// ---- a write of a call with that number: it is made where the call is accepted
-
-// the held number of a source
-pub fn put_held(
-    code: u8,
-    held: &mut [f32],
-    globals: &mut [f32],
-    voice: bool,
-    w: usize,
-    source: usize,
-    value: f32,
-)
-    requires { code ≡ 0 → (source * w + w ≤ length held.old) × (source < length globals.old) }
-    ensures rows { held.new ≡ cond (eqb code 0) (cond voice
-        (on_row held.old w source (replicate w value)) held.old) held.old }
-    ensures single { globals.new ≡ cond (eqb code 0) (cond voice globals.old
-        (set globals.old source value)) globals.old }
+// one lane of a source per voice
+pub fn write_lane(held: &mut [f32], w: usize, source: usize, voice: usize, value: f32)
+    requires { source * w + voice < length held.old }
+    ensures { held.new ≡ set held.old (source * w + voice) value }
 {
-    if code != 0 {
-        return;
-    }
-    write_held(held, globals, voice, w, source, value);
-}
-
-// one lane of it
-pub fn put_lane(code: u8, held: &mut [f32], w: usize, source: usize, voice: usize, value: f32)
-    requires { code ≡ 0 → source * w + voice < length held.old }
-    ensures { held.new ≡ cond (eqb code 0) (set held.old (source * w + voice) value)
-        held.old }
-{
-    if code != 0 {
-        return;
-    }
     let at = source * w + voice;
     held[at] = value;
-}
-
-// a destination's base
-pub fn put_base(code: u8, bases: &mut [f32], dest: usize, value: f32)
-    requires { code ≡ 0 → dest < length bases.old }
-    ensures { bases.new ≡ cond (eqb code 0) (set bases.old dest value)
-        bases.old }
-{
-    if code != 0 {
-        return;
-    }
-    bases[dest] = value;
-}
-
-// a slot's amount
-pub fn put_amount(code: u8, gains: Gains, slot: usize, amount: f32) -> Gains
-    ensures { result ≡ cond (eqb code 0) (with_amount gains slot amount) gains }
-{
-    if code != 0 {
-        return gains;
-    }
-    with_amount(gains, slot, amount)
-}
-
-// a slot's output
-pub fn put_output(code: u8, gains: Gains, slot: usize, output: f32) -> Gains
-    ensures { result ≡ cond (eqb code 0) (with_output gains slot output) gains }
-{
-    if code != 0 {
-        return gains;
-    }
-    with_output(gains, slot, output)
-}
-
-// the marks, once a program is installed
-pub fn put_swapped(code: u8, marks: Marks, active: [bool; VOICES]) -> Marks
-    ensures { result ≡ cond (eqb code 0) (marks_swapped marks active) marks }
-{
-    if code != 0 {
-        return marks;
-    }
-    marks.swapped(active)
-}
-
-// the gains of an accepted call, or those before it
-pub fn either_gains(code: u8, next: Gains, before: Gains) -> Gains
-    ensures { result ≡ cond (eqb code 0) next before }
-{
-    if code != 0 {
-        return before;
-    }
-    next
-}
-
-// the program of an accepted call, or that before it
-pub fn either_program(code: u8, next: Program, before: Program) -> Program
-    ensures { result ≡ cond (eqb code 0) next before }
-{
-    if code != 0 {
-        return before;
-    }
-    next
-}
-
-// whether the program has ticked: one that is installed has not
-pub fn put_unprimed(code: u8, primed: bool) -> bool
-    ensures { result ≡ cond (eqb code 0) false primed }
-{
-    if code != 0 {
-        return primed;
-    }
-    false
 }
 
 // ---- marks and gains
@@ -481,12 +393,10 @@ pub fn marks_of(entry: [Source; SOURCES]) -> [SourceMark; SOURCES]
         scope: Scope::Voice,
     };
     let mut out = [none; SOURCES];
-    let mut i = 0;
-    while i < SOURCES {
+    for i in 0..SOURCES {
         let source = entry[i];
         let mark = mark_of(source);
         out[i] = mark;
-        i += 1;
     }
     out
 }
@@ -534,7 +444,7 @@ pub fn fresh_state(
     }
 }
 
-// the state of a refused `new`: rate 1, 0 frames, 0 voices, nothing registered
+// the state of a bare engine: rate 1, 0 frames, 0 voices, nothing registered
 pub fn refused_state() -> State
     ensures { result ≡ refused_state }
 {

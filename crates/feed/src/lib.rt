@@ -24,16 +24,10 @@ fn is_fed(feeds: &[bool; PAIRS], placed: &[bool; SLOTS], n: usize, b: usize) -> 
     requires { (n ≤ slots) × (b < n) }
     ensures { result ≡ fed_by (marked feeds.now) (unplaced placed.now 0 n) b }
 {
-    let mut a = 0;
-    while a < n {
-        if !placed[a] {
-            if feeds[a * SLOTS + b] {
-                if a != b {
-                    return true;
-                }
-            }
+    for a in 0..n {
+        if !placed[a] && feeds[a * SLOTS + b] && a != b {
+            return true;
         }
-        a += 1;
     }
     false
 }
@@ -43,14 +37,10 @@ fn first_free(feeds: &[bool; PAIRS], placed: &[bool; SLOTS], n: usize) -> usize
     requires { n ≤ slots }
     ensures { result ≡ first_or n (free (marked feeds.now) (unplaced placed.now 0 n)) }
 {
-    let mut b = 0;
-    while b < n {
-        if !placed[b] {
-            if !is_fed(feeds, placed, n, b) {
-                return b;
-            }
+    for b in 0..n {
+        if !placed[b] && !is_fed(feeds, placed, n, b) {
+            return b;
         }
-        b += 1;
     }
     n
 }
@@ -60,12 +50,10 @@ fn first_unplaced(placed: &[bool; SLOTS], n: usize) -> usize
     requires { n ≤ slots }
     ensures { result ≡ first_or 0 (unplaced placed.now 0 n) }
 {
-    let mut i = 0;
-    while i < n {
+    for i in 0..n {
         if !placed[i] {
             return i;
         }
-        i += 1;
     }
     0
 }
@@ -89,31 +77,19 @@ fn places(feeds: &[bool; PAIRS], n: usize) -> [usize; SLOTS]
 {
     let mut out: [usize; SLOTS] = [0; SLOTS];
     let mut placed: [bool; SLOTS] = [false; SLOTS];
-    let mut k = 0;
-    while k < n {
+    for k in 0..n {
         let d = next_place(feeds, &placed, n);
         out[k] = d;
         placed[d] = true;
-        k += 1;
     }
     out
-}
-
-// n, or SLOTS where it is more.
-fn held(n: usize) -> usize
-    ensures { result ≡ min n slots }
-{
-    if n < SLOTS {
-        return n;
-    }
-    SLOTS
 }
 
 // The order of the places below n, n held to SLOTS.
 pub fn plan_order(feeds: &[bool; PAIRS], n: usize) -> Order
     ensures { result ≡ plan_order feeds.now n }
 {
-    let count = held(n);
+    let count = n.min(SLOTS);
     Order {
         place: places(feeds, count),
         count,

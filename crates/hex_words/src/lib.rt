@@ -27,23 +27,15 @@ pub fn bits_of(x: f32) -> u32
 }
 
 // the number of a hexadecimal digit, upper or lower case; 0 for any other byte
+#[tactic(auto, unfolding(crate::specs::Hex::digit_of))]
 fn digit(b: u8) -> u64
     ensures { (result ≡ digit_of b) × (result < 16) }
 {
-    if b < 48 {
-        0
-    } else if b < 58 {
-        (b - 48) as u64
-    } else if b < 65 {
-        0
-    } else if b < 71 {
-        (b - 55) as u64
-    } else if b < 97 {
-        0
-    } else if b < 103 {
-        (b - 87) as u64
-    } else {
-        0
+    match b {
+        b'0'..=b'9' => (b - b'0') as u64,
+        b'A'..=b'F' => (b - b'A' + 10) as u64,
+        b'a'..=b'f' => (b - b'a' + 10) as u64,
+        _ => 0,
     }
 }
 
@@ -51,7 +43,7 @@ fn digit(b: u8) -> u64
 fn byte(s: &[u8], at: usize) -> u8
     ensures { result ≡ get_or s.now at 0 }
 {
-    if at < s.len() { s[at] } else { 0 }
+    s.get(at).copied().unwrap_or(0)
 }
 
 // the number that n hexadecimal digits stand for, from a place of the text on; of more than 16 the last 16 count
@@ -60,10 +52,8 @@ pub fn hex(s: &[u8], at: usize, n: usize) -> u64
     ensures { result ≡ hex_at s.now at n }
 {
     let mut value = 0u64;
-    let mut i = 0usize;
-    while i < n {
+    for i in 0..n {
         value = value % 0x1000_0000_0000_0000 * 16 + digit(byte(s, at + i));
-        i += 1usize;
     }
     value
 }

@@ -1,11 +1,11 @@
 -- A route's value and its slews, by what the code finds. Assumes nothing.
+use Rattle.std.specs.Prelude.{Some}
 use mathlib.Core.Path.{◌≡◌, refl, sym, ap, ◌∙◌}
 use mathlib.Core.Bool.{Bool, true, false, not, ◌&&◌}
 use Prim.Native.Nat.{ℕ, ◌*◌}
 use lib.Dec.{ltb, leb}
 use lib.Ieee.{Float}
 use Rattle.number.specs.Number.{times}
-use Rattle.state.specs.declared.Aux.TheVariants as X
 use Rattle.state.specs.declared.Input.{Input}
 use Rattle.state.specs.declared.Read.{Read}
 use Rattle.state.specs.declared.Read.TheVariants as D
@@ -63,9 +63,9 @@ source-kept t x f s j l {r} {moves} {b} q e m off k = rw (q, moving t x r l (fre
 
 -- the aux's
 pub aux-moved : (t : Env) (x : Mix) (f : Rows) (s : Own) (j l : ℕ) (r : Route) (i : Input) {moves b : Bool} {v : Float} → b ≡ not (free_slew i.slew) && moves
-    → moves ≡ moves_in t x r l → b ≡ true → v ≡ aux_in t f s j l r i → v ≡ aux_slew t x f s j r l (X.With i)
+    → moves ≡ moves_in t x r l → b ≡ true → v ≡ aux_in t f s j l r i → v ≡ aux_slew t x f s j r l (Some i)
 aux-moved t x f s j l r i {moves} {b} e m on k = rw (moving t x r l (free_slew i.slew) moves b e m ∙ on) k
 
 pub aux-kept : (t : Env) (x : Mix) (f : Rows) (s : Own) (j l : ℕ) (r : Route) (i : Input) {moves b : Bool} {v : Float} → b ≡ not (free_slew i.slew) && moves
-    → moves ≡ moves_in t x r l → b ≡ false → v ≡ s j 1 l → v ≡ aux_slew t x f s j r l (X.With i)
+    → moves ≡ moves_in t x r l → b ≡ false → v ≡ s j 1 l → v ≡ aux_slew t x f s j r l (Some i)
 aux-kept t x f s j l r i {moves} {b} e m off k = rw (moving t x r l (free_slew i.slew) moves b e m ∙ off) k

@@ -1,7 +1,6 @@
 -- What the lanes of one route are worked out from, and that it is the environment's. Definitions only.
-use Rattle.std.specs.Prelude.{◌≡◌, List, ℕ, ◌+◌, ◌*◌, ◌≤◌, Float}
-use Rattle.state.specs.declared.Aux.{Aux}
-use Rattle.state.specs.declared.Aux.TheVariants as X
+use Rattle.std.specs.Prelude.{◌≡◌, List, ℕ, ◌+◌, ◌*◌, ◌≤◌, Float, Option, Some, None}
+use Rattle.state.specs.declared.Input.{Input}
 use Rattle.state.specs.declared.Route.{Route}
 use Rattle.state.specs.declared.SignalPart.{SignalPart}
 use Rattle.state.specs.declared.Signals.{Signals}
@@ -21,9 +20,9 @@ pub record Placed (v : View) : Type 0 where
   pub start : v.own ≤ most_values
 
 -- the part of the signal that an aux reads, where there is an aux that reads one
-abbrev pub aux_part : Signals → Aux → SignalPart
-aux_part s X.Missing = no_part
-aux_part s (X.With i) = part_for s i.read
+abbrev pub aux_part : Signals → Option Input → SignalPart
+aux_part s None = no_part
+aux_part s (Some i) = part_for s i.read
 
 -- the own rows of the routes from `first` on
 abbrev pub own_rows : ℕ → ℕ → ℕ → ℕ → List Float → Own

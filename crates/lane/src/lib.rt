@@ -2,9 +2,8 @@
 // specs/RouteValue and specs/Slews. A contract holds of every environment that has what the function is handed: specs/View says what that is.
 #![tactic(auto)]
 
-ghost use Rattle.std.specs.Prelude.{◌≡◌, not, ◌&&◌, ◌||◌, ℕ, ◌+◌, ◌*◌, ◌≤◌, ◌<◌, ltb, leb};
+ghost use Rattle.std.specs.Prelude.{◌≡◌, not, ◌&&◌, ◌||◌, ℕ, ◌+◌, ◌*◌, ◌≤◌, ◌<◌, ltb, leb, Some};
 ghost use Rattle.config.specs.Sizes.{slots};
-ghost use Rattle.state.specs.declared.Aux.TheVariants as X;
 ghost use Rattle.model.specs.Env.{Env, Rows, Own, part_stride, live_amount_of, live_output_of};
 ghost use Rattle.model.specs.Input.{input_in};
 ghost use Rattle.model.specs.Layout.{route_slew};
@@ -17,7 +16,7 @@ ghost use Rattle.lane_input.specs.Reads.{Sized, IsRows, Reads, Works, part_for};
 ghost use Rattle.lane.specs.View.{most_values, Placed, IsOwn, Viewed};
 
 use lane_input::{Lead, Point};
-use state::{Aux, Gain, Input, Read, Route, SignalPart, Slew};
+use state::{Gain, Input, Read, Route, SignalPart, Slew};
 
 // What a route's lanes are worked out from at one frame, besides the lent numbers: its own rows start at `own`, its inputs read the parts `source` and `aux`
 // of the signals, and `amount` and `output` are its slot's as set.
@@ -134,7 +133,7 @@ pub fn aux_in(
     values: &[f32],
 ) -> f32
     requires { Placed view }
-    ensures { (t : Env) (f : Rows) (s : Own) (j : ℕ) → Viewed t f s j view route held.now globals.now tables.now samples.now values.now → route.aux ≡ X.With input → snap ≡ snap_of t route.voice lane → result ≡ aux_in t f s j lane route input }
+    ensures { (t : Env) (f : Rows) (s : Own) (j : ℕ) → Viewed t f s j view route held.now globals.now tables.now samples.now values.now → route.aux ≡ Some input → snap ≡ snap_of t route.voice lane → result ≡ aux_in t f s j lane route input }
 {
     let part = view.aux;
     placed_in(
@@ -187,13 +186,10 @@ fn flipped(invert: bool, a: f32) -> f32
 }
 
 // Whether there is no slew.
-pub fn free_slew(slew: Slew) -> bool
+pub fn free_slew(slew: Option<Slew>) -> bool
     ensures { result ≡ free_slew slew }
 {
-    match slew {
-        Slew::Free => true,
-        Slew::Limit { up: _, down: _ } => false,
-    }
+    slew.is_none()
 }
 
 // whether an input has neither curve nor slew
@@ -251,8 +247,8 @@ fn with_aux(
 {
     let aux = route.aux;
     match aux {
-        Aux::Missing => p,
-        Aux::With(i) => {
+        None => p,
+        Some(i) => {
             p * flipped(
                 route.aux_invert,
                 aux_in(
@@ -374,6 +370,7 @@ pub fn rowed(read: Read, part: SignalPart, stride: usize, up_to: usize) -> bool
 }
 
 // Whether a route is plain, into a destination per voice while a voice is active.
+#[tactic(auto, unfolding(model::specs::RouteValue::plain))]
 pub fn plain(
     voice: bool,
     sounds: bool,
@@ -384,18 +381,7 @@ pub fn plain(
 ) -> bool
     ensures { (t : Env) → sounds ≡ sounding t → t.stride ≡ stride → t.up_to ≡ up_to → part_for t.signals route.source.read ≡ part → result ≡ plain t voice route }
 {
-    if !voice {
-        return false;
-    }
-    if !sounds {
-        return false;
-    }
-    if !route.simple {
-        return false;
-    }
-    let input = route.source;
-    let read = input.read;
-    rowed(read, part, stride, up_to)
+    voice && sounds && route.simple && rowed(route.source.read, part, stride, up_to)
 }
 
 // ---- slews
@@ -404,13 +390,7 @@ pub fn plain(
 pub fn moves_in(plain: bool, idle: bool, worked: bool) -> bool
     ensures { result ≡ not (plain || idle) && worked }
 {
-    if plain {
-        return false;
-    }
-    if idle {
-        return false;
-    }
-    worked
+    !plain && !idle && worked
 }
 
 // the number of own row q in a lane, kept
@@ -474,7 +454,7 @@ fn aux_moved(
     values: &[f32],
 ) -> f32
     requires { Placed view }
-    ensures { (t : Env) (x : Mix) (f : Rows) (s : Own) (j : ℕ) → Viewed t f s j view route held.now globals.now tables.now samples.now values.now → route.aux ≡ X.With input → moves ≡ moves_in t x route lane → snap ≡ snap_of t route.voice lane → result ≡ aux_slew t x f s j route lane (X.With input) }
+    ensures { (t : Env) (x : Mix) (f : Rows) (s : Own) (j : ℕ) → Viewed t f s j view route held.now globals.now tables.now samples.now values.now → route.aux ≡ Some input → moves ≡ moves_in t x route lane → snap ≡ snap_of t route.voice lane → result ≡ aux_slew t x f s j route lane (Some input) }
 {
     if slews(input, moves) {
         return aux_in(
@@ -487,7 +467,7 @@ fn aux_moved(
 
 // the slew of the aux, where there is one
 fn aux_slew(
-    aux: Aux,
+    aux: Option<Input>,
     route: Route,
     view: View,
     moves: bool,
@@ -504,8 +484,8 @@ fn aux_slew(
 {
     let point = view.point;
     match aux {
-        Aux::Missing => own_kept(values, view.own, point.stride, 1, lane),
-        Aux::With(i) => aux_moved(
+        None => own_kept(values, view.own, point.stride, 1, lane),
+        Some(i) => aux_moved(
             route, i, view, moves, snap, lane, held, globals, tables, samples, values,
         ),
     }

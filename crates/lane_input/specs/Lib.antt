@@ -1,4 +1,3 @@
 pub mod Scene
 pub mod Reads
-pub mod Lane
 pub mod Signal

@@ -9,17 +9,16 @@ ghost use Rattle.curve_table.specs.Table.{points, lookup_of};
 ghost use Rattle.model.specs.Counts.{at};
 ghost use Rattle.model.specs.Env.{Env, Rows, no_part, part_stride, in_part, sample_in};
 ghost use Rattle.model.specs.Input.{own, fed_at, read_in, unipolar, curved, slewed, input_in};
-ghost use Rattle.model.specs.Lanes.{any_from, group_of, in_group, sounding, in_span, lane_if, newest_lane, addend, same_group, worked, snap_of};
+ghost use Rattle.model.specs.Lanes.{any_from, group_of, in_group, sounding, in_span, lane_if, addend, same_group, worked, snap_of};
 ghost use Rattle.model.specs.Layout.{plan_size, plan_to};
 ghost use Rattle.model.specs.Tick.{lanes_from};
-ghost use Rattle.lane_input.specs.Lane.{lane_of};
 ghost use Rattle.lane_input.specs.Signal.{signal_in};
 ghost use Rattle.lane_input.specs.Reads.{Sized, IsRows, Reads, Works, part_for, fed_from, held_at, point_of};
 
 use config::{LANES, VOICES};
 use curve_table::POINTS;
 use state::{Gains, Input, Read, SignalPart, Slew};
-use voice::{Newest, Voices};
+use voice::Voices;
 
 // What lanes are worked out from at one frame, besides the lent numbers.
 #[derive(Clone, Copy)]
@@ -341,12 +340,12 @@ fn curved(tables: &[f32], slot: u8, position: usize, table: bool, u: f32) -> f32
 }
 
 // from prev, where there is a slew
-fn slewed(steps: f32, snap: f32, prev: f32, slew: Slew, u: f32) -> f32
+fn slewed(steps: f32, snap: f32, prev: f32, slew: Option<Slew>, u: f32) -> f32
     ensures { (t : Env) → t.steps ≡ steps → result ≡ slewed t snap prev slew u }
 {
     match slew {
-        Slew::Free => u,
-        Slew::Limit { up, down } => slew::step(
+        None => u,
+        Some(Slew { up, down }) => slew::step(
             slew::reach(up, steps),
             slew::reach(down, steps),
             snap,
@@ -407,13 +406,6 @@ pub fn input_in(
 
 // ---- lanes
 
-// A lane, or none.
-#[derive(Clone, Copy)]
-pub enum Lane {
-    At(usize),
-    Nowhere,
-}
-
 fn mark_at(marks: [bool; VOICES], i: usize) -> bool
     ensures { result ≡ get_or marks i false }
 {
@@ -440,12 +432,10 @@ fn mark_from(marks: [bool; VOICES], k: usize, i: usize) -> bool
 pub fn any_from(marks: [bool; VOICES], k: usize, c: usize) -> bool
     ensures { result ≡ any_from marks k c }
 {
-    let mut i = 0usize;
-    while i < c {
+    for i in 0..c {
         if mark_from(marks, k, i) {
             return true;
         }
-        i += 1;
     }
     false
 }
@@ -471,68 +461,45 @@ pub fn sounding(active: [bool; VOICES], stride: usize) -> bool
     any_from(active, 0, stride)
 }
 
-// what is left of n after k
-fn rest(n: usize, k: usize) -> usize
-    ensures { result ≡ n - k }
-{
-    if n <= k {
-        return 0;
-    }
-    n - k
-}
-
 // Whether a lane's group lies in the active span: from the first group with an active voice to the last.
 pub fn in_span(active: [bool; VOICES], stride: usize, lane: usize) -> bool
     requires { lane < most_voices }
     ensures { (t : Env) → t.voices.active ≡ active → t.stride ≡ stride → result ≡ in_span t lane }
 {
     let group = group_of(lane);
-    if !any_from(active, 0, group + LANES) {
-        return false;
-    }
-    any_from(active, group, rest(stride, group))
+    any_from(active, 0, group + LANES) && any_from(active, group, stride.saturating_sub(group))
 }
 
-fn lane_if(on: bool, lane: usize) -> Lane
-    ensures { lane_of result ≡ lane_if on lane }
+fn lane_if(on: bool, lane: usize) -> Option<usize>
+    ensures { result ≡ lane_if on lane }
 {
     if on {
-        return Lane::At(lane);
+        return Some(lane);
     }
-    Lane::Nowhere
+    None
 }
 
-fn newest_lane(newest: Newest) -> Lane
-    ensures { lane_of result ≡ newest_lane newest }
-{
-    match newest {
-        Newest::Nobody => Lane::Nowhere,
-        Newest::Voice(v) => Lane::At(v),
-    }
-}
-
-// The route's lane that is added to a lane of the plan, by whether plan and route are per voice.
-pub fn addend(voices: Voices, plan: bool, route: bool, lane: usize) -> Lane
-    ensures { (t : Env) → t.voices ≡ voices → lane_of result ≡ addend t plan route lane }
+// The route's lane, if any, that is added to a lane of the plan, by whether plan and route are per voice.
+pub fn addend(voices: Voices, plan: bool, route: bool, lane: usize) -> Option<usize>
+    ensures { (t : Env) → t.voices ≡ voices → result ≡ addend t plan route lane }
 {
     let active = voices.active;
-    let newest = voices.newest;
     if plan {
         return lane_if(in_group(active, lane), own(route, lane));
     }
     if route {
-        return newest_lane(newest);
+        return voices.newest;
     }
-    Lane::At(0)
+    Some(0)
 }
 
 // whether a lane's group is the newest voice's
-fn newest_group(newest: Newest, lane: usize) -> bool
-    ensures { result ≡ same_group lane (newest_lane newest) }
+fn newest_group(newest: Option<usize>, lane: usize) -> bool
+    ensures { result ≡ same_group lane newest }
 {
     match newest {
-        Newest::Nobody => false,
-        Newest::Voice(v) => group_of(lane) == group_of(v),
+        None => false,
+        Some(v) => group_of(lane) == group_of(v),
     }
 }
 
@@ -555,13 +522,7 @@ pub fn worked(voices: Voices, plan: bool, route: bool, lane: usize) -> bool
 pub fn snap_of(snap: bool, fresh: [bool; VOICES], voice: bool, lane: usize) -> f32
     ensures { (t : Env) → t.snap ≡ snap → t.fresh ≡ fresh → result ≡ snap_of t voice lane }
 {
-    if !voice {
-        return 0.0;
-    }
-    if !snap {
-        return 0.0;
-    }
-    if mark_at(fresh, lane) {
+    if voice && snap && mark_at(fresh, lane) {
         return 1.0;
     }
     0.0

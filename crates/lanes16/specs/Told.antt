@@ -1,8 +1,6 @@
 -- What an input reads in each lane, and that it is the environment's. Definitions only.
-use Rattle.std.specs.Prelude.{◌≡◌, Bool, not, cond, ◌&&◌, List, ℕ, ◌+◌, ◌<◌, Float}
+use Rattle.std.specs.Prelude.{◌≡◌, Bool, not, cond, ◌&&◌, List, ℕ, ◌+◌, ◌<◌, Float, Option, Some, None}
 use Rattle.config.specs.Sizes.{lanes}
-use Rattle.state.specs.declared.Aux.{Aux}
-use Rattle.state.specs.declared.Aux.TheVariants as X
 use Rattle.state.specs.declared.Input.{Input}
 use Rattle.state.specs.declared.Read.{Read}
 use Rattle.state.specs.declared.Route.{Route}
@@ -34,9 +32,9 @@ abbrev pub Stands : Env → Rows → Own → ℕ → ℕ → Read → Place → 
 Stands t f s j position d z n h i m = (l : ℕ) → l < n → Tells z h i m l (read_at t f s j position d l)
 
 -- the same of an aux, where there is one
-abbrev pub AuxStands : Env → Rows → Own → ℕ → Aux → Place → ℕ → List Float → List Float → List Float → Type 0
-AuxStands t f s j X.Missing z n h i m = Unit {0}
-AuxStands t f s j (X.With u) z n h i m = Stands t f s j 1 u.read z n h i m
+abbrev pub AuxStands : Env → Rows → Own → ℕ → Option Input → Place → ℕ → List Float → List Float → List Float → Type 0
+AuxStands t f s j None z n h i m = Unit {0}
+AuxStands t f s j (Some u) z n h i m = Stands t f s j 1 u.read z n h i m
 
 -- the source has neither curve nor slew
 abbrev pub bare : Input → Bool
@@ -53,6 +51,6 @@ Snaps t voice a z = (l : ℕ) → l < lanes → at z l ≡ snap_of t voice (a + 
 abbrev pub Leads : Env → Rows → Own → ℕ → Route → ℕ → List Float → Type 0
 Leads t f s j r a z = (l : ℕ) → l < lanes → at z l ≡ lead_in t f s j (a + l) r
 
-abbrev pub Withs : Env → Rows → Own → ℕ → Route → Aux → ℕ → List Float → Type 0
-Withs t f s j r X.Missing a z = Unit {0}
-Withs t f s j r (X.With u) a z = (l : ℕ) → l < lanes → at z l ≡ aux_in t f s j (a + l) r u
+abbrev pub Withs : Env → Rows → Own → ℕ → Route → Option Input → ℕ → List Float → Type 0
+Withs t f s j r None a z = Unit {0}
+Withs t f s j r (Some u) a z = (l : ℕ) → l < lanes → at z l ≡ aux_in t f s j (a + l) r u

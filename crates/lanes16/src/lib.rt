@@ -25,7 +25,7 @@ use curve_table::POINTS;
 use lane::View;
 use lane_input::Point;
 use plan_sum::Place;
-use state::{Aux, Gain, Input, Read, Route, SignalPart, Slew};
+use state::{Gain, Input, Read, Route, SignalPart, Slew};
 
 // ---- sixteen numbers
 
@@ -473,7 +473,7 @@ pub fn own_lanes(values: &[f32], own: usize, stride: usize, q: usize, lane: usiz
 
 // from the slews before, where there is a slew
 fn slewed_lanes(
-    slew: Slew,
+    slew: Option<Slew>,
     view: View,
     position: usize,
     lane: usize,
@@ -486,8 +486,8 @@ fn slewed_lanes(
 {
     let point = view.point;
     match slew {
-        Slew::Free => row,
-        Slew::Limit { up, down } => step_lanes(
+        None => row,
+        Some(Slew { up, down }) => step_lanes(
             slew::reach(up, point.steps),
             slew::reach(down, point.steps),
             snap,
@@ -584,7 +584,7 @@ pub fn source_lanes(
 
 // Its aux, where there is one.
 pub fn aux_lanes(
-    aux: Aux,
+    aux: Option<Input>,
     slot: u8,
     place: Place,
     view: View,
@@ -601,8 +601,8 @@ pub fn aux_lanes(
 {
     let part = view.aux;
     match aux {
-        Aux::Missing => [0.0f32; LANES],
-        Aux::With(i) => input_lanes(
+        None => [0.0f32; LANES],
+        Some(i) => input_lanes(
             i, place, view, part, slot, 1, snap, lane, held, globals, tables, samples, values,
         ),
     }
@@ -675,12 +675,17 @@ fn inverted_lanes(row: [f32; LANES]) -> [f32; LANES]
 }
 
 // times the aux, where there is one
-fn aux_times(aux: Aux, invert: bool, row: [f32; LANES], with: [f32; LANES]) -> [f32; LANES]
+fn aux_times(
+    aux: Option<Input>,
+    invert: bool,
+    row: [f32; LANES],
+    with: [f32; LANES],
+) -> [f32; LANES]
     ensures { (t : Env) (f : Rows) (s : Own) (j lane : ℕ) (route : Route) → route.aux_invert ≡ invert → Withs t f s j route aux lane with → (l : ℕ) → l < lanes → at result l ≡ with_aux t f s j (lane + l) route aux (at row l) }
 {
     match aux {
-        Aux::Missing => row,
-        Aux::With(_) => times_lanes(row, flipped_lanes(invert, with)),
+        None => row,
+        Some(_) => times_lanes(row, flipped_lanes(invert, with)),
     }
 }
 

@@ -5,3 +5,4 @@ pub mod Parts
 pub mod FilledPart
 pub mod Rows
 pub mod Padded
+pub mod Places

@@ -8,21 +8,14 @@ ghost use Rattle.list.specs.Part.{part, on_part};
 pub fn read(xs: &[f32], i: usize, other: f32) -> f32
     ensures { result ≡ get_or xs.now i other }
 {
-    if i < xs.len() {
-        return xs[i];
-    }
-    other
+    xs.get(i).copied().unwrap_or(other)
 }
 
 // Every number becomes x.
 pub fn fill(out: &mut [f32], x: f32)
     ensures { out.new ≡ replicate (length out.old) x }
 {
-    let mut i = 0usize;
-    while i < out.len() {
-        out[i] = x;
-        i += 1usize;
-    }
+    out.fill(x);
 }
 
 // Every number from a up to e becomes x.
@@ -38,11 +31,7 @@ pub fn copy(out: &mut [f32], xs: &[f32])
     requires { length xs.now ≡ length out.old }
     ensures { out.new ≡ xs.now }
 {
-    let mut i = 0usize;
-    while i < out.len() {
-        out[i] = xs[i];
-        i += 1usize;
-    }
+    out.copy_from_slice(xs);
 }
 
 // The numbers from a up to e become those of xs.
@@ -59,11 +48,11 @@ pub fn copy_within(mem: &mut [f32], from: usize, to: usize, n: usize)
     ensures { mem.new ≡ on_part mem.old to (to + n)
         (part mem.old from (from + n)) }
 {
-    let mut i = 0usize;
-    while i < n {
+    // Not the slice's copy_within: that copies parts that overlap too, so it would meet what the edit
+    // copy_within_overlap asks, which has to be refused.
+    for i in 0..n {
         let from_i = from + i;
         let to_i = to + i;
         mem[to_i] = mem[from_i];
-        i += 1usize;
     }
 }

@@ -15,7 +15,7 @@ use Rattle.matrix_editing.specs.Free.{first_free}
 use borrow.Author.Tests.{ne_eqb, le-ltb, lt-ltb, lt-leb}
 use Rattle.config.specs.Sizes.{slots}
 use Rattle.refusal.specs.Judge.{Row, judged}
-use Rattle.state.specs.declared.Pick.{Pick}
+use Rattle.std.specs.Prelude.{Option}
 use Rattle.state.specs.declared.Target.{Target}
 use Rattle.state.specs.declared.Polarity.{Polarity}
 use Rattle.state.specs.declared.Slot.{Slot}
@@ -27,9 +27,8 @@ use Rattle.matrix.specs.Routes.{drag_route, add_vibrato, create_vibrato, create_
 use Rattle.matrix.specs.declared.CurveSlot.{CurveSlot}
 use Rattle.matrix.specs.declared.NoteSlot.{NoteSlot}
 use Rattle.matrix.specs.declared.SortBy.{SortBy}
-use Rattle.matrix.specs.declared.Edited.{Edited}
-use Rattle.matrix.specs.declared.Place.TheVariants as P
-use Rattle.matrix.specs.declared.Placed.{Placed}
+use Rattle.matrix.specs.Answers.{Edited, Placed}
+use Rattle.matrix.specs.Place as P
 
 -- ---- answers
 
@@ -106,7 +105,7 @@ pub set-polarity-leaves : (m : Matrix) (n : ℕ) (p : Polarity) → Leaves m (se
 unfolding set_polarity
 set-polarity-leaves m n p = edited-leaves _ m n _
 
-pub set-aux-leaves : (m : Matrix) (n : ℕ) (p : Pick) (b : Bool) → Leaves m (set_aux m n p b)
+pub set-aux-leaves : (m : Matrix) (n : ℕ) (p : Option ℕ) (b : Bool) → Leaves m (set_aux m n p b)
 unfolding set_aux
 set-aux-leaves m n p b = edited-leaves _ m n _
 

@@ -12,7 +12,7 @@ use Rattle.config.specs.Sizes.{slots}
 use Rattle.refusal.specs.Judge.{Row, ◌when◌, judged}
 use Rattle.number.specs.Number.{finite}
 use Rattle.reply.specs.Reply.{accepts, refuses, only, by_rows}
-use Rattle.state.specs.declared.Pick.TheVariants as A
+use Rattle.std.specs.Prelude.{Some}
 use Rattle.state.specs.declared.Target.{Target}
 use Rattle.state.specs.declared.Polarity.{Polarity}
 use Rattle.state.specs.declared.Polarity.TheVariants as L
@@ -22,8 +22,8 @@ use Rattle.slots.specs.Slots.{first_empty, route_slot, kept_amount, with_aux}
 use Rattle.slots.specs.Matrix.{with_slot}
 use Rattle.matrix_editing.specs.Drag.{polarity_at, dragged_amount}
 use Rattle.matrix_editing.specs.Free.{first_free}
-use Rattle.matrix.specs.declared.Place.TheVariants as P
-use Rattle.matrix.specs.declared.Placed.{Placed}
+use Rattle.matrix.specs.Place as P
+use Rattle.matrix.specs.Answers.{Placed}
 use Rattle.matrix.specs.Edits.{placed, add_route}
 use Rattle.matrix.specs.Routes.{drag_route, add_vibrato, create_vibrato, create_velocity_to_amp}
 use Rattle.matrix.specs.Replies.{placed_reply, add_rows, drag_rows, add_says, drag_says, vibrato_says}
@@ -75,5 +75,5 @@ vibrato-said m lfos wheel t x r h = (
   h,
   rw h
       (vibrato-if (finite x) (ltb (first_free lfos m.slot) (length lfos)) m (first_empty m.slot)
-      (with_aux (A.Source wheel) false (route_slot (get_or lfos (first_free lfos m.slot) 0) t (kept_amount x) L.Bipolar))),
+      (with_aux (Some wheel) false (route_slot (get_or lfos (first_free lfos m.slot) 0) t (kept_amount x) L.Bipolar))),
 )

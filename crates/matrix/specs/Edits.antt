@@ -5,7 +5,7 @@ use Rattle.refusal.specs.Judge.{Row, judged, ◌when◌}
 use Rattle.number.specs.Number.{finite}
 use Rattle.curve_table.specs.Table.{all_allowed}
 use Rattle.curve_table.specs.declared.Curve.TheVariants as C
-use Rattle.state.specs.declared.Pick.{Pick}
+use Rattle.std.specs.Prelude.{Option}
 use Rattle.state.specs.declared.Target.{Target}
 use Rattle.state.specs.declared.Polarity.{Polarity}
 use Rattle.state.specs.declared.NoteCurve.TheVariants as N
@@ -25,10 +25,8 @@ use Rattle.matrix.specs.declared.CurveSlot.{CurveSlot}
 use Rattle.matrix.specs.declared.NoteSlot.{NoteSlot}
 use Rattle.matrix.specs.declared.SortBy.{SortBy}
 use Rattle.matrix.specs.declared.SortBy.TheVariants as S
-use Rattle.matrix.specs.declared.Edited.{Edited}
-use Rattle.matrix.specs.declared.SlotRead.{SlotRead}
-use Rattle.matrix.specs.declared.Place.TheVariants as P
-use Rattle.matrix.specs.declared.Placed.{Placed}
+use Rattle.matrix.specs.Answers.{Edited, SlotRead, Placed}
+use Rattle.matrix.specs.Place as P
 use Rattle.matrix.specs.declared.Removed.{Removed}
 
 -- ---- rows (document 01, Numbers that a call hands back)
@@ -100,7 +98,7 @@ unfoldable pub set_polarity : Matrix → ℕ → Polarity → Edited
 set_polarity m n p = edited (slot_row n ∷ []) m n (with_polarity p)
 
 -- matrix.rs 283-293
-unfoldable pub set_aux : Matrix → ℕ → Pick → Bool → Edited
+unfoldable pub set_aux : Matrix → ℕ → Option ℕ → Bool → Edited
 set_aux m n p b = edited (slot_row n ∷ []) m n (with_aux p b)
 
 -- matrix.rs 300-307, to the mark `Linear`

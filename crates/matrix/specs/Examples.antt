@@ -10,7 +10,7 @@ use Rattle.config.specs.Sizes.{slots}
 use Rattle.curve_table.specs.Table.{allowed, all_allowed}
 use Rattle.curve_table.specs.Curve.{seconds_finite}
 use Rattle.curve_table.specs.declared.Curve.TheVariants as C
-use Rattle.state.specs.declared.Pick.TheVariants as A
+use Rattle.std.specs.Prelude.{Some}
 use Rattle.state.specs.declared.Target.TheVariants as T
 use Rattle.state.specs.declared.Polarity.TheVariants as L
 use Rattle.state.specs.declared.NoteCurve.TheVariants as N
@@ -33,7 +33,7 @@ use Rattle.matrix_editing.specs.Free.{in_use, first_free}
 use Rattle.matrix.specs.Routes.{drag_route, add_vibrato, create_vibrato, create_velocity_to_amp, drag_polarity}
 use Rattle.matrix.specs.Routes.{limit_depth}
 use Rattle.matrix.specs.declared.CurveSlot.TheVariants as W
-use Rattle.matrix.specs.declared.Place.TheVariants as P
+use Rattle.matrix.specs.Place as P
 use Rattle.matrix.specs.declared.SortBy.TheVariants as S
 
 -- the last slot is there; the number of slots is row 5, with the empty slot
@@ -109,7 +109,7 @@ vibratos : (create_vibrato (with_slot new_matrix 0 route) (5 ∷ 6 ∷ []) 9 (T.
       code = 0;
       place = P.At 1;
       matrix = with_slot (with_slot new_matrix 0 route) 1
-          (with_aux (A.Source 9) false (route_slot 6 (T.Param 7) one32 L.Bipolar));
+          (with_aux (Some 9) false (route_slot 6 (T.Param 7) one32 L.Bipolar));
     })
     × (create_vibrato full (5 ∷ []) 9 (T.Param 7) one32 ≡ record { code = 0; place = P.NoFreeLfo; matrix = full })
     × (create_vibrato full (6 ∷ []) 9 (T.Param 7) one32 ≡ record { code = 0; place = P.Full; matrix = full })

@@ -1,3 +1,5 @@
+pub mod Place
+pub mod Answers
 pub mod Which
 pub mod Edits
 pub mod Routes

@@ -10,9 +10,9 @@ use Rattle.slots.specs.Slots.{first_empty}
 use Rattle.slots_tables.specs.Rows.{finite_row}
 use Rattle.matrix_editing.specs.Drag.{both_finite}
 use Rattle.matrix_editing.specs.Free.{first_free}
-use Rattle.matrix.specs.declared.Place.{Place}
-use Rattle.matrix.specs.declared.Place.TheVariants as P
-use Rattle.matrix.specs.declared.Placed.{Placed}
+use Rattle.matrix.specs.Place.{Place}
+use Rattle.matrix.specs.Place as P
+use Rattle.matrix.specs.Answers.{Placed}
 
 -- ---- each case, with the code that stands beside it
 

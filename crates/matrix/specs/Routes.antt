@@ -3,7 +3,7 @@
 use Rattle.std.specs.Prelude.{Bool, false, cond, List, [], ◌∷◌, ℕ, ltb, length, get_or, Float}
 use Rattle.refusal.specs.Judge.{judged}
 use Rattle.number.specs.Number.{zero32, finite}
-use Rattle.state.specs.declared.Pick.TheVariants as A
+use Rattle.std.specs.Prelude.{Some}
 use Rattle.state.specs.declared.Target.{Target}
 use Rattle.state.specs.declared.Polarity.{Polarity}
 use Rattle.state.specs.declared.Polarity.TheVariants as L
@@ -13,10 +13,8 @@ use Rattle.slots_tables.specs.Rows.{finite_row}
 use Rattle.matrix_editing.specs.Drag.{both_finite, polarity_at, depth_at, dragged_amount}
 use Rattle.matrix_editing.specs.Free.{first_free}
 use Rattle.matrix.specs.Edits.{placed, add_route}
-use Rattle.matrix.specs.declared.Place.TheVariants as P
-use Rattle.matrix.specs.declared.Placed.{Placed}
-use Rattle.matrix.specs.declared.PolarityMade.{PolarityMade}
-use Rattle.matrix.specs.declared.Depth.{Depth}
+use Rattle.matrix.specs.Place as P
+use Rattle.matrix.specs.Answers.{Placed, PolarityMade, Depth}
 
 -- ---- dragging
 
@@ -42,7 +40,7 @@ limit_depth at p x =
 -- both ways from that LFO, with the mod wheel as its aux, not inverted (matrix.rs 386-388)
 unfoldable pub add_vibrato : Matrix → ℕ → ℕ → Target → Float → Placed
 add_vibrato m lfo wheel t x =
-    placed 0 m (first_empty m.slot) (with_aux (A.Source wheel) false (route_slot lfo t (kept_amount x) L.Bipolar))
+    placed 0 m (first_empty m.slot) (with_aux (Some wheel) false (route_slot lfo t (kept_amount x) L.Bipolar))
 
 -- from the first of the LFOs that is no slot's source; none is free before none is empty (matrix.rs 374-389)
 unfoldable pub create_vibrato : Matrix → List ℕ → ℕ → Target → Float → Placed

@@ -2,14 +2,15 @@
 // specs/.
 #![tactic(auto)]
 
-ghost use Rattle.std.specs.Prelude.{◌≡◌, [], ◌∷◌, ◌<◌};
+ghost use Rattle.std.specs.Prelude.{◌≡◌, Ok, [], ◌∷◌, ◌<◌};
 ghost use Rattle.refusal.specs.Judge.{judged};
 ghost use Rattle.config.specs.Sizes.{slots};
-ghost use Rattle.slots.specs.Slots.{empty_slot, is_empty_slot};
+ghost use Rattle.slots.specs.Slots.{empty_slot, is_empty_slot, first_empty};
 ghost use Rattle.slots_tables.specs.Tables.{places};
 ghost use Rattle.slots.specs.Matrix.{new_matrix, slots_of, with_slot};
 ghost use Rattle.matrix.specs.Which.{with_curve, with_note, place_of, note_place};
 ghost use Rattle.slots_tables.specs.Rows.{finite_row};
+ghost use Rattle.matrix.specs.Answers.{slot_said, edited_said, placed_said, polarity_said, depth_said};
 ghost use Rattle.matrix.specs.Edits.{slot_row, answered, placed, slot_at, set_slot, add_route, remove_slot, set_bypass};
 ghost use Rattle.matrix.specs.Edits.{set_slot_amount, set_slot_output, set_polarity, set_aux, set_linear};
 ghost use Rattle.matrix.specs.Edits.{remove_destination, set_glide, set_velocity_legato, set_note_linear, set_curve};
@@ -20,8 +21,9 @@ ghost use Rattle.matrix.specs.Routes.{limit_depth};
 
 use config::SLOTS;
 use curve_table::Curve;
+use refusal::Refusal;
 use slots_tables::{KEY_PLACE, TABLES, VELOCITY_PLACE};
-use state::{Matrix, NoteCurve, Pick, Polarity, Slot, Target};
+use state::{Matrix, NoteCurve, Polarity, Slot, Target};
 
 // ---- answers
 
@@ -43,49 +45,18 @@ pub enum SortBy {
     Destination,
 }
 
+// What became of a route: it stands at a slot of the new matrix, or there was no room for it and nothing changed.
 #[derive(Clone, Copy)]
-pub struct SlotRead {
-    pub code: u8,
-    pub slot: Slot,
-}
-
-#[derive(Clone, Copy)]
-pub struct Edited {
-    pub code: u8,
-    pub matrix: Matrix,
-}
-
-#[derive(Clone, Copy)]
-pub enum Place {
-    At(usize),
+pub enum Added {
+    At { slot: usize, matrix: Matrix },
     Full,
     NoFreeLfo,
-    Refused,
-}
-
-#[derive(Clone, Copy)]
-pub struct Placed {
-    pub code: u8,
-    pub place: Place,
-    pub matrix: Matrix,
 }
 
 #[derive(Clone, Copy)]
 pub struct Removed {
     pub count: usize,
     pub matrix: Matrix,
-}
-
-#[derive(Clone, Copy)]
-pub struct PolarityMade {
-    pub code: u8,
-    pub polarity: Polarity,
-}
-
-#[derive(Clone, Copy)]
-pub struct Depth {
-    pub code: u8,
-    pub amount: f32,
 }
 
 // ---- slots
@@ -127,127 +98,98 @@ pub fn slots(matrix: Matrix) -> [Slot; SLOTS]
 }
 
 // slot n
-pub fn slot(matrix: Matrix, n: usize) -> SlotRead
-    ensures { result ≡ slot_at matrix n }
+pub fn slot(matrix: Matrix, n: usize) -> Result<Slot, Refusal>
+    ensures { slot_said result ≡ slot_at matrix n }
 {
-    SlotRead {
-        code: slot_code(n),
-        slot: slots::slot_of(matrix, n),
+    if SLOTS <= n {
+        return Err(Refusal::Slot);
     }
+    Ok(slots::slot_of(matrix, n))
 }
 
 // ---- what every edit of a slot has
 
-// slot n becomes `slot` where the call is accepted
-fn answer(code: u8, matrix: Matrix, n: usize, slot: Slot) -> Edited
-    ensures { result ≡ answered code matrix (with_slot matrix n slot) }
+// slot n becomes `slot` (row 5)
+fn replace(matrix: Matrix, n: usize, slot: Slot) -> Result<Matrix, Refusal>
+    ensures { edited_said matrix result ≡ answered (judged (slot_row n ∷ [])) matrix (with_slot matrix n slot) }
 {
-    if code != 0 {
-        return Edited { code, matrix };
-    }
     if SLOTS <= n {
-        return Edited { code, matrix };
+        return Err(Refusal::Slot);
     }
     let mut next = matrix;
     next.slot[n] = slot;
-    Edited { code, matrix: next }
+    Ok(next)
 }
 
-// row 5
-fn slot_code(n: usize) -> u8
-    ensures { result ≡ judged (slot_row n ∷ []) }
+// the same where the numbers in it are finite (row 5, then row 6)
+fn replace_finite(matrix: Matrix, n: usize, finite: bool, slot: Slot) -> Result<Matrix, Refusal>
+    ensures { edited_said matrix result
+        ≡ answered (judged (slot_row n ∷ finite_row finite ∷ [])) matrix (with_slot matrix n slot) }
 {
-    refusal::row(SLOTS <= n, 5)
-}
-
-// row 5, then row 6
-fn slot_and_number_code(n: usize, finite: bool) -> u8
-    ensures { result ≡ judged (slot_row n ∷ finite_row finite ∷ []) }
-{
-    refusal::first(slot_code(n), refusal::row(!finite, 6))
+    let next = replace(matrix, n, slot)?;
+    refusal::when(!finite, Refusal::Number)?;
+    Ok(next)
 }
 
 // ---- edits of one slot
 
 // slot n becomes `slot`, as it is
-pub fn set_slot(matrix: Matrix, n: usize, slot: Slot) -> Edited
-    ensures { result ≡ set_slot matrix n slot }
+pub fn set_slot(matrix: Matrix, n: usize, slot: Slot) -> Result<Matrix, Refusal>
+    ensures { edited_said matrix result ≡ set_slot matrix n slot }
 {
-    answer(
-        slot_and_number_code(n, slots::numbers_finite(slot)),
-        matrix,
-        n,
-        slot,
-    )
+    replace_finite(matrix, n, slots::numbers_finite(slot), slot)
 }
 
 // slot n becomes empty
-pub fn remove(matrix: Matrix, n: usize) -> Edited
-    ensures { result ≡ remove_slot matrix n }
+pub fn remove(matrix: Matrix, n: usize) -> Result<Matrix, Refusal>
+    ensures { edited_said matrix result ≡ remove_slot matrix n }
 {
-    answer(slot_code(n), matrix, n, empty_slot())
+    replace(matrix, n, empty_slot())
 }
 
 // slot n is switched off or on
-pub fn set_bypass(matrix: Matrix, n: usize, bypass: bool) -> Edited
-    ensures { result ≡ set_bypass matrix n bypass }
+pub fn set_bypass(matrix: Matrix, n: usize, bypass: bool) -> Result<Matrix, Refusal>
+    ensures { edited_said matrix result ≡ set_bypass matrix n bypass }
 {
-    answer(
-        slot_code(n),
-        matrix,
-        n,
-        slots::with_bypass(slots::slot_of(matrix, n), bypass),
-    )
+    let slot = slots::with_bypass(slots::slot_of(matrix, n), bypass);
+    replace(matrix, n, slot)
 }
 
 // slot n's amount, -1 to 1
-pub fn set_amount(matrix: Matrix, n: usize, amount: f32) -> Edited
-    ensures { result ≡ set_slot_amount matrix n amount }
+pub fn set_amount(matrix: Matrix, n: usize, amount: f32) -> Result<Matrix, Refusal>
+    ensures { edited_said matrix result ≡ set_slot_amount matrix n amount }
 {
     let slot = slots::with_amount(slots::slot_of(matrix, n), slots::kept_amount(amount));
-    answer(
-        slot_and_number_code(n, number::is_finite(amount)),
-        matrix,
-        n,
-        slot,
-    )
+    replace_finite(matrix, n, number::is_finite(amount), slot)
 }
 
 // slot n's output, 0 to 1
-pub fn set_output(matrix: Matrix, n: usize, output: f32) -> Edited
-    ensures { result ≡ set_slot_output matrix n output }
+pub fn set_output(matrix: Matrix, n: usize, output: f32) -> Result<Matrix, Refusal>
+    ensures { edited_said matrix result ≡ set_slot_output matrix n output }
 {
     let slot = slots::with_output(slots::slot_of(matrix, n), slots::kept_output(output));
-    answer(
-        slot_and_number_code(n, number::is_finite(output)),
-        matrix,
-        n,
-        slot,
-    )
+    replace_finite(matrix, n, number::is_finite(output), slot)
 }
 
 // slot n's polarity
-pub fn set_polarity(matrix: Matrix, n: usize, polarity: Polarity) -> Edited
-    ensures { result ≡ set_polarity matrix n polarity }
+pub fn set_polarity(matrix: Matrix, n: usize, polarity: Polarity) -> Result<Matrix, Refusal>
+    ensures { edited_said matrix result ≡ set_polarity matrix n polarity }
 {
-    answer(
-        slot_code(n),
-        matrix,
-        n,
-        slots::with_polarity(slots::slot_of(matrix, n), polarity),
-    )
+    let slot = slots::with_polarity(slots::slot_of(matrix, n), polarity);
+    replace(matrix, n, slot)
 }
 
 // slot n's aux source, or none, and whether it is inverted
-pub fn set_aux(matrix: Matrix, n: usize, aux: Pick, invert: bool) -> Edited
-    ensures { result ≡ set_aux matrix n aux invert }
+pub fn set_aux(
+    matrix: Matrix,
+    n: usize,
+    aux: Option<usize>,
+    invert: bool,
+) -> Result<Matrix, Refusal>
+    ensures { edited_said matrix result ≡ set_aux matrix n aux invert }
 {
-    answer(
-        slot_code(n),
-        matrix,
-        n,
-        slots::with_aux(slots::slot_of(matrix, n), aux, invert),
-    )
+    let slot = slots::with_aux(slots::slot_of(matrix, n), aux, invert);
+    replace(matrix, n, slot)
 }
 
 fn with_curve(slot: Slot, which: CurveSlot, curve: Curve) -> Slot
@@ -260,45 +202,26 @@ fn with_curve(slot: Slot, which: CurveSlot, curve: Curve) -> Slot
 }
 
 // that curve of slot n becomes linear
-pub fn set_linear(matrix: Matrix, n: usize, which: CurveSlot) -> Edited
-    ensures { result ≡ set_linear matrix n which }
+pub fn set_linear(matrix: Matrix, n: usize, which: CurveSlot) -> Result<Matrix, Refusal>
+    ensures { edited_said matrix result ≡ set_linear matrix n which }
 {
-    let linear = Curve::Linear;
-    answer(
-        slot_code(n),
-        matrix,
-        n,
-        with_curve(slots::slot_of(matrix, n), which, linear),
-    )
+    let slot = with_curve(slots::slot_of(matrix, n), which, Curve::Linear);
+    replace(matrix, n, slot)
 }
 
 // ---- adding a route
 
-// slot i becomes `slot` where the call is accepted and there is a slot i
-fn place_at(code: u8, matrix: Matrix, i: usize, slot: Slot) -> Placed
-    ensures { result ≡ placed code matrix i slot }
+// the route in the first empty slot, where there is one
+fn place(matrix: Matrix, route: Slot) -> Added
+    ensures { placed_said matrix (Ok result) ≡ placed 0 matrix (first_empty matrix.slot) route }
 {
-    if code != 0 {
-        return Placed {
-            code,
-            place: Place::Refused,
-            matrix,
-        };
-    }
-    if SLOTS <= i {
-        return Placed {
-            code: 0,
-            place: Place::Full,
-            matrix,
-        };
+    let slot = slots::first_empty(matrix.slot);
+    if SLOTS <= slot {
+        return Added::Full;
     }
     let mut next = matrix;
-    next.slot[i] = slot;
-    Placed {
-        code: 0,
-        place: Place::At(i),
-        matrix: next,
-    }
+    next.slot[slot] = route;
+    Added::At { slot, matrix: next }
 }
 
 // a route in the first empty slot
@@ -308,14 +231,13 @@ pub fn add(
     destination: Target,
     amount: f32,
     polarity: Polarity,
-) -> Placed
-    ensures value { result ≡ add_route matrix source destination amount polarity }
-    ensures reply { placed_reply result ≡ add_says matrix amount }
+) -> Result<Added, Refusal>
+    ensures value { placed_said matrix result ≡ add_route matrix source destination amount polarity }
+    ensures reply { placed_reply (placed_said matrix result) ≡ add_says matrix amount }
 {
-    let code = refusal::row(!number::is_finite(amount), 6);
+    refusal::when(!number::is_finite(amount), Refusal::Number)?;
     let route = slots::route_slot(source, destination, slots::kept_amount(amount), polarity);
-    let slots = matrix.slot;
-    place_at(code, matrix, slots::first_empty(slots), route)
+    Ok(place(matrix, route))
 }
 
 // ---- routes that the editor makes
@@ -329,28 +251,26 @@ pub fn drag(
     amount: f32,
     toggle: bool,
     limit: bool,
-) -> Placed
-    ensures value { result ≡ drag_route matrix source destination position amount toggle limit }
-    ensures reply { placed_reply result ≡ drag_says matrix position amount }
+) -> Result<Added, Refusal>
+    ensures value { placed_said matrix result ≡ drag_route matrix source destination position amount toggle limit }
+    ensures reply { placed_reply (placed_said matrix result) ≡ drag_says matrix position amount }
 {
-    let code = refusal::row(!matrix_editing::both_finite(position, amount), 6);
+    refusal::when(
+        !matrix_editing::both_finite(position, amount),
+        Refusal::Number,
+    )?;
     let polarity = matrix_editing::polarity_at(position, toggle);
     let dragged = matrix_editing::dragged_amount(position, polarity, amount, limit);
     let route = slots::route_slot(source, destination, slots::kept_amount(dragged), polarity);
-    let slots = matrix.slot;
-    place_at(code, matrix, slots::first_empty(slots), route)
+    Ok(place(matrix, route))
 }
 
 // a route both ways from that LFO, with the mod wheel as its aux, in the first empty slot
-fn vibrato(matrix: Matrix, lfo: usize, mod_wheel: usize, tuning: Target, amount: f32) -> Placed
-    ensures { result ≡ add_vibrato matrix lfo mod_wheel tuning amount }
+fn vibrato(matrix: Matrix, lfo: usize, mod_wheel: usize, tuning: Target, amount: f32) -> Added
+    ensures { placed_said matrix (Ok result) ≡ add_vibrato matrix lfo mod_wheel tuning amount }
 {
-    let both = Polarity::Bipolar;
-    let route = slots::route_slot(lfo, tuning, slots::kept_amount(amount), both);
-    let wheel = Pick::Source(mod_wheel);
-    let with_wheel = slots::with_aux(route, wheel, false);
-    let slots = matrix.slot;
-    place_at(0, matrix, slots::first_empty(slots), with_wheel)
+    let route = slots::route_slot(lfo, tuning, slots::kept_amount(amount), Polarity::Bipolar);
+    place(matrix, slots::with_aux(route, Some(mod_wheel), false))
 }
 
 // a vibrato from the first of the LFOs that no slot uses
@@ -360,68 +280,47 @@ pub fn create_vibrato(
     mod_wheel: usize,
     tuning: Target,
     amount: f32,
-) -> Placed
-    ensures value { result ≡ create_vibrato matrix lfos.now mod_wheel tuning amount }
-    ensures reply { placed_reply result ≡ vibrato_says matrix lfos.now amount }
+) -> Result<Added, Refusal>
+    ensures value { placed_said matrix result ≡ create_vibrato matrix lfos.now mod_wheel tuning amount }
+    ensures reply { placed_reply (placed_said matrix result) ≡ vibrato_says matrix lfos.now amount }
 {
-    if !number::is_finite(amount) {
-        return Placed {
-            code: 6,
-            place: Place::Refused,
-            matrix,
-        };
+    refusal::when(!number::is_finite(amount), Refusal::Number)?;
+    match matrix_editing::first_free(lfos, matrix.slot) {
+        None => Ok(Added::NoFreeLfo),
+        Some(lfo) => Ok(vibrato(matrix, lfo, mod_wheel, tuning, amount)),
     }
-    let slots = matrix.slot;
-    let free = matrix_editing::first_free(lfos, slots);
-    if lfos.len() <= free {
-        return Placed {
-            code: 0,
-            place: Place::NoFreeLfo,
-            matrix,
-        };
-    }
-    let lfo = lfos[free];
-    vibrato(matrix, lfo, mod_wheel, tuning, amount)
 }
 
 // a route one way from the velocity to the amp
-pub fn create_velocity_to_amp(matrix: Matrix, velocity: usize, amp: Target, amount: f32) -> Placed
-    ensures value { result ≡ create_velocity_to_amp matrix velocity amp amount }
-    ensures reply { placed_reply result ≡ add_says matrix amount }
+pub fn create_velocity_to_amp(
+    matrix: Matrix,
+    velocity: usize,
+    amp: Target,
+    amount: f32,
+) -> Result<Added, Refusal>
+    ensures value { placed_said matrix result ≡ create_velocity_to_amp matrix velocity amp amount }
+    ensures reply { placed_reply (placed_said matrix result) ≡ add_says matrix amount }
 {
-    let one = Polarity::Unipolar;
-    add(matrix, velocity, amp, amount, one)
+    add(matrix, velocity, amp, amount, Polarity::Unipolar)
 }
 
 // the polarity of a route dragged onto a control at that position
-pub fn drag_polarity(position: f32, toggle: bool) -> PolarityMade
-    ensures { result ≡ drag_polarity position toggle }
+pub fn drag_polarity(position: f32, toggle: bool) -> Result<Polarity, Refusal>
+    ensures { polarity_said result ≡ drag_polarity position toggle }
 {
-    if !number::is_finite(position) {
-        return PolarityMade {
-            code: 6,
-            polarity: Polarity::Unipolar,
-        };
-    }
-    let polarity = matrix_editing::polarity_at(position, toggle);
-    PolarityMade { code: 0, polarity }
+    refusal::when(!number::is_finite(position), Refusal::Number)?;
+    Ok(matrix_editing::polarity_at(position, toggle))
 }
 
 // the amount, held to the travel that the position leaves
-pub fn limit_depth(position: f32, polarity: Polarity, amount: f32) -> Depth
-    ensures { result ≡ limit_depth position polarity amount }
+pub fn limit_depth(position: f32, polarity: Polarity, amount: f32) -> Result<f32, Refusal>
+    ensures { depth_said result ≡ limit_depth position polarity amount }
 {
-    if !matrix_editing::both_finite(position, amount) {
-        return Depth {
-            code: 6,
-            amount: 0.0,
-        };
-    }
-    let depth = matrix_editing::depth_at(position, polarity, amount);
-    Depth {
-        code: 0,
-        amount: depth,
-    }
+    refusal::when(
+        !matrix_editing::both_finite(position, amount),
+        Refusal::Number,
+    )?;
+    Ok(matrix_editing::depth_at(position, polarity, amount))
 }
 
 // ---- removing a destination
@@ -430,12 +329,10 @@ pub fn limit_depth(position: f32, polarity: Polarity, amount: f32) -> Depth
 pub fn remove_destination(matrix: Matrix, destination: Target) -> Removed
     ensures { result ≡ remove_destination matrix destination }
 {
-    let slot = matrix.slot;
-    let count = slots::count_aims(destination, slot);
-    let next = slots::clear_all(destination, slot);
+    let slot = slots::clear_all(destination, matrix.slot);
     Removed {
-        count,
-        matrix: slots::with_slots(matrix, next),
+        count: slots::count_aims(destination, matrix.slot),
+        matrix: Matrix { slot, ..matrix },
     }
 }
 
@@ -445,18 +342,20 @@ pub fn remove_destination(matrix: Matrix, destination: Target) -> Removed
 pub fn set_glide(matrix: Matrix, on: bool) -> Matrix
     ensures { result ≡ set_glide matrix on }
 {
-    let mut next = matrix;
-    next.glide = on;
-    next
+    Matrix {
+        glide: on,
+        ..matrix
+    }
 }
 
 // whether a legato note sets the velocity
 pub fn set_velocity_legato(matrix: Matrix, on: bool) -> Matrix
     ensures { result ≡ set_velocity_legato matrix on }
 {
-    let mut next = matrix;
-    next.velocity_legato = on;
-    next
+    Matrix {
+        velocity_legato: on,
+        ..matrix
+    }
 }
 
 fn with_note(matrix: Matrix, which: NoteSlot, curve: NoteCurve) -> Matrix
@@ -472,8 +371,7 @@ fn with_note(matrix: Matrix, which: NoteSlot, curve: NoteCurve) -> Matrix
 pub fn set_note_linear(matrix: Matrix, which: NoteSlot) -> Matrix
     ensures { result ≡ set_note_linear matrix which }
 {
-    let linear = NoteCurve::Linear;
-    with_note(matrix, which, linear)
+    with_note(matrix, which, NoteCurve::Linear)
 }
 
 // ---- tables
@@ -508,46 +406,36 @@ pub fn set_curve(
     table: &[f32],
     rise: f32,
     fall: f32,
-) -> Edited
-    ensures answer { result ≡ (set_curve matrix tables.old n which table.now rise fall).answer }
+) -> Result<Matrix, Refusal>
+    ensures answer { edited_said matrix result ≡ (set_curve matrix tables.old n which table.now rise fall).answer }
     ensures lent { tables.new ≡ (set_curve matrix tables.old n which
         table.now rise fall).tables }
 {
+    refusal::when(SLOTS <= n, Refusal::Slot)?;
     let allowed = slots_tables::curve_allowed(table, rise, fall);
-    let code = refusal::first(
-        slot_code(n),
-        slots_tables::rows_of_table(allowed, tables.len(), table.len()),
-    );
-    if code != 0 {
-        return Edited { code, matrix };
-    }
+    slots_tables::check_table(allowed, tables.len(), table.len())?;
     let curve = Curve::Table { rise, fall };
     let slot = with_curve(slots::slot_of(matrix, n), which, curve);
     slots_tables::write_table(tables, place_of(n, which), table);
-    answer(0, matrix, n, slot)
+    replace(matrix, n, slot)
 }
 
 // that note curve becomes a table
-pub fn set_note_curve(matrix: Matrix, tables: &mut [f32], which: NoteSlot, table: &[f32]) -> Edited
-    ensures answer { result ≡ (set_note_curve matrix tables.old which table.now).answer }
+pub fn set_note_curve(
+    matrix: Matrix,
+    tables: &mut [f32],
+    which: NoteSlot,
+    table: &[f32],
+) -> Result<Matrix, Refusal>
+    ensures answer { edited_said matrix result ≡ (set_note_curve matrix tables.old which table.now).answer }
     ensures lent { tables.new ≡ (set_note_curve matrix tables.old which
         table.now).tables }
 {
-    let code = slots_tables::rows_of_table(
-        curve_table::numbers_allowed(table),
-        tables.len(),
-        table.len(),
-    );
-    if code != 0 {
-        return Edited { code, matrix };
-    }
-    let curve = NoteCurve::Table;
-    let next = with_note(matrix, which, curve);
+    let allowed = curve_table::numbers_allowed(table);
+    slots_tables::check_table(allowed, tables.len(), table.len())?;
+    let next = with_note(matrix, which, NoteCurve::Table);
     slots_tables::write_table(tables, note_place(which), table);
-    Edited {
-        code: 0,
-        matrix: next,
-    }
+    Ok(next)
 }
 
 // ---- sorting
@@ -555,76 +443,62 @@ pub fn set_note_curve(matrix: Matrix, tables: &mut [f32], which: NoteSlot, table
 fn by_source(by: SortBy) -> bool
     ensures { result ≡ by_source by }
 {
-    match by {
-        SortBy::Source => true,
-        SortBy::Destination => false,
-    }
+    matches!(by, SortBy::Source)
 }
 
 // row 6 of a whole matrix
 fn matrix_allowed(matrix: Matrix, tables: &[f32]) -> bool
     ensures { result ≡ matrix_allowed matrix tables.now }
 {
-    let slot = matrix.slot;
-    if !slots::all_finite(slot) {
-        return false;
-    }
-    slots_tables::named_allowed(matrix, tables)
+    slots::all_finite(matrix.slot) && slots_tables::named_allowed(matrix, tables)
 }
 
 // the slots in order, their tables with them
-pub fn sort(matrix: Matrix, tables: &mut [f32], by: SortBy) -> Edited
-    ensures answer { result ≡ (sort_slots matrix tables.old by).answer }
+pub fn sort(matrix: Matrix, tables: &mut [f32], by: SortBy) -> Result<Matrix, Refusal>
+    ensures answer { edited_said matrix result ≡ (sort_slots matrix tables.old by).answer }
     ensures lent { tables.new ≡ (sort_slots matrix tables.old by).tables }
 {
     if !matrix_allowed(matrix, tables) {
-        return Edited { code: 6, matrix };
+        return Err(Refusal::Number);
     }
     let slot = matrix.slot;
     let places = matrix_sorting::places_by(by_source(by), slot);
     let next = slots::with_slots(matrix, matrix_sorting::slots_at(places, slot));
     if !slots_tables::names_table(matrix) {
-        return Edited {
-            code: 0,
-            matrix: next,
-        };
+        return Ok(next);
     }
     if tables.len() < TABLES {
-        return Edited { code: 14, matrix };
+        return Err(Refusal::Memory);
     }
     matrix_sorting::move_tables(tables, places);
-    Edited {
-        code: 0,
-        matrix: next,
-    }
+    Ok(next)
 }
 
 // ---- loading
 
 // the matrix becomes the other, its tables with it
-pub fn load(matrix: Matrix, tables: &mut [f32], other: Matrix, other_tables: &[f32]) -> Edited
-    ensures answer { result ≡ (load_matrix matrix tables.old other other_tables.now).answer }
+pub fn load(
+    matrix: Matrix,
+    tables: &mut [f32],
+    other: Matrix,
+    other_tables: &[f32],
+) -> Result<Matrix, Refusal>
+    ensures answer { edited_said matrix result ≡ (load_matrix matrix tables.old other other_tables.now).answer }
     ensures lent { tables.new ≡ (load_matrix matrix tables.old other
         other_tables.now).tables }
 {
     if !matrix_allowed(other, other_tables) {
-        return Edited { code: 6, matrix };
+        return Err(Refusal::Number);
     }
     if !slots_tables::names_table(other) {
-        return Edited {
-            code: 0,
-            matrix: other,
-        };
+        return Ok(other);
     }
     if tables.len() < TABLES {
-        return Edited { code: 14, matrix };
+        return Err(Refusal::Memory);
     }
     if other_tables.len() < TABLES {
-        return Edited { code: 14, matrix };
+        return Err(Refusal::Memory);
     }
     slots_tables::write_tables(tables, other_tables);
-    Edited {
-        code: 0,
-        matrix: other,
-    }
+    Ok(other)
 }

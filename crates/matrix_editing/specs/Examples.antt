@@ -1,5 +1,5 @@
 -- The definitions, computed.
-use Rattle.std.specs.Prelude.{◌≡◌, refl, true, false, [], ◌∷◌, pos, negsuc, ℕ}
+use Rattle.std.specs.Prelude.{◌≡◌, refl, true, false, [], ◌∷◌, pos, negsuc, ℕ, Some, None}
 use Rattle.std.specs.Float.{fin, binary32}
 use Rattle.std.specs.Float.Ieee.{neg, lt, le, is_nan, sub, of_bits}
 use Rattle.number.specs.Number.{zero32, half32, one32, min32, clamp_to, abs_of}
@@ -8,7 +8,7 @@ use Rattle.state.specs.declared.Polarity.TheVariants as L
 use Rattle.state.specs.declared.Slot.{Slot}
 use Rattle.slots.specs.Slots.{empty_slot, route_slot}
 use Rattle.matrix_editing.specs.Drag.{centre_tolerance, centred, two_way, polarity_at, one_way_room, within, depth_at}
-use Rattle.matrix_editing.specs.Free.{in_use, first_free}
+use Rattle.matrix_editing.specs.Free.{in_use, first_free, free_source}
 
 -- the tolerance is the Rust's constant 0.005
 tolerance : of_bits binary32 0x3ba3_d70a ≡ centre_tolerance
@@ -42,3 +42,9 @@ frees : (first_free (4 ∷ 6 ∷ 5 ∷ []) (uses 5 ∷ empty_slot ∷ uses 4 ∷
     × (first_free (4 ∷ 5 ∷ []) (uses 5 ∷ empty_slot ∷ uses 4 ∷ []) ≡ 2) × (first_free [] [] ≡ 0)
 unfolding first_free in_use empty_slot route_slot
 frees = (refl, refl, refl)
+
+-- the source itself, or none
+sources : (free_source (4 ∷ 6 ∷ 5 ∷ []) (uses 5 ∷ empty_slot ∷ uses 4 ∷ []) ≡ Some 6)
+    × (free_source (4 ∷ 5 ∷ []) (uses 5 ∷ empty_slot ∷ uses 4 ∷ []) ≡ None)
+unfolding first_free in_use empty_slot route_slot
+sources = (refl, refl)

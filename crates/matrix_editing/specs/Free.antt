@@ -1,12 +1,11 @@
 -- The first of a list of sources that no slot has (matrix.rs 381-385). Definitions only.
-use Rattle.std.specs.Prelude.{Bool, false, cond, ◌||◌, List, [], ◌∷◌, ℕ, suc, eqb}
-use Rattle.state.specs.declared.Pick.{Pick}
-use Rattle.state.specs.declared.Pick.TheVariants as P
+use Rattle.std.specs.Prelude.{Bool, false, cond, ◌||◌, List, [], ◌∷◌, ℕ, suc, eqb, ltb, length, get_or, Option}
+use Rattle.std.specs.Prelude.{Some, None}
 use Rattle.state.specs.declared.Slot.{Slot}
 
-abbrev pub picks_source : ℕ → Pick → Bool
-picks_source n P.Nothing = false
-picks_source n (P.Source k) = eqb k n
+abbrev pub picks_source : ℕ → Option ℕ → Bool
+picks_source n None = false
+picks_source n (Some k) = eqb k n
 
 -- whether a slot has the source; bypassed or not, with a destination or without (matrix.rs 384)
 unfoldable pub in_use : ℕ → List Slot → Bool
@@ -17,3 +16,7 @@ in_use n (s ∷ l) = picks_source n s.source || in_use n l
 unfoldable pub first_free : List ℕ → List Slot → ℕ
 first_free [] l = 0
 first_free (n ∷ ns) l = cond (in_use n l) (suc (first_free ns l)) 0
+
+-- that source, where there is one
+abbrev pub free_source : List ℕ → List Slot → Option ℕ
+free_source ns l = cond (ltb (first_free ns l) (length ns)) (Some (get_or ns (first_free ns l) 0)) None

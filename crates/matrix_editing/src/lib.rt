@@ -6,19 +6,17 @@ ghost use Rattle.std.specs.Prelude.{◌≡◌};
 ghost use Rattle.matrix_editing.specs.Drag.{both_finite, centred, two_way, polarity_at, one_way_room, room_at};
 ghost use Rattle.matrix_editing.specs.Drag.{depth_at};
 ghost use Rattle.matrix_editing.specs.Drag.{dragged_amount};
-ghost use Rattle.matrix_editing.specs.Free.{picks_source, in_use, first_free};
+ghost use Rattle.matrix_editing.specs.Free.{picks_source, in_use, free_source};
 
 use config::SLOTS;
-use state::{Pick, Polarity, Slot};
+use state::{Polarity, Slot};
 
 // whether both numbers are finite
+#[tactic(auto, unfolding(crate::specs::Drag::both_finite))]
 pub fn both_finite(a: f32, b: f32) -> bool
     ensures { result ≡ both_finite a b }
 {
-    if !number::is_finite(a) {
-        return false;
-    }
-    number::is_finite(b)
+    number::is_finite(a) && number::is_finite(b)
 }
 
 // ---- polarity
@@ -40,13 +38,11 @@ fn two_way(both: bool) -> Polarity
 }
 
 // the polarity of a route dragged onto a control at that position
+#[tactic(auto, unfolding(crate::specs::Drag::polarity_at))]
 pub fn polarity_at(position: f32, toggle: bool) -> Polarity
     ensures { result ≡ polarity_at position toggle }
 {
-    if toggle {
-        return two_way(!is_centred(position));
-    }
-    two_way(is_centred(position))
+    two_way(is_centred(position) != toggle)
 }
 
 // ---- depth
@@ -92,42 +88,33 @@ pub fn dragged_amount(position: f32, polarity: Polarity, amount: f32, limit: boo
 
 // ---- free LFOs
 
-fn picks_source(source: usize, pick: Pick) -> bool
+fn picks_source(source: usize, pick: Option<usize>) -> bool
     ensures { result ≡ picks_source source pick }
 {
-    match pick {
-        Pick::Nothing => false,
-        Pick::Source(n) => n == source,
-    }
+    pick == Some(source)
 }
 
 // whether a slot has the source
 fn in_use(source: usize, slot: [Slot; SLOTS]) -> bool
     ensures { result ≡ in_use source slot }
 {
-    let mut i = 0usize;
-    while i < SLOTS {
-        let s = slot[i];
+    for s in slot {
         let pick = s.source;
         if picks_source(source, pick) {
             return true;
         }
-        i += 1usize;
     }
     false
 }
 
-// the place of the first of the LFOs that no slot has as its source, or how many there are
-pub fn first_free(lfos: &[usize], slot: [Slot; SLOTS]) -> usize
-    ensures { result ≡ first_free lfos.now slot }
+// the first of the LFOs that no slot has as its source
+pub fn first_free(lfos: &[usize], slot: [Slot; SLOTS]) -> Option<usize>
+    ensures { result ≡ free_source lfos.now slot }
 {
-    let mut i = 0usize;
-    while i < lfos.len() {
-        let lfo = lfos[i];
-        if !in_use(lfo, slot) {
-            return i;
+    for lfo in lfos {
+        if !in_use(*lfo, slot) {
+            return Some(*lfo);
         }
-        i += 1usize;
     }
-    i
+    None
 }

@@ -9,10 +9,10 @@ use native.Mathlib.Omega.{arith}
 use lib.ListN.{length, get_or, set}
 use lib.Seq.{get_or-set_other}
 use lib.Ieee.{Float, nan}
+use Rattle.std.specs.Prelude.{Option, Some, None}
 use Rattle.config.specs.Sizes.{slots}
 use Rattle.draw.specs.Xorshift.{step, draw_of}
-use Rattle.state.specs.declared.Aux.{Aux}
-use Rattle.state.specs.declared.Aux.TheVariants as X
+use Rattle.state.specs.declared.Input.{Input}
 use Rattle.state.specs.declared.Chunk.{Chunk}
 use Rattle.state.specs.declared.Read.{Read}
 use Rattle.state.specs.declared.Read.TheVariants as D
@@ -138,9 +138,9 @@ module _ (w : Wiring) (slotted : length w.matrix.slot ≡ slots) (st : State) (i
     read-off r p h b D.Constant d = refl
     read-off r p h b D.RouteRandom d = voices-off r p h b (voice_count st) (omega arith) d
 
-    aux-off : (r : ℕ) → r < route_total st.program → (x : Aux) (d : Drawn) → at (draw_aux st r x d).values k ≡ at d.values k
-    aux-off r h X.Missing d = refl
-    aux-off r h (X.With i) d = read-off r 1 h (omega arith) i.read d
+    aux-off : (r : ℕ) → r < route_total st.program → (x : Option Input) (d : Drawn) → at (draw_aux st r x d).values k ≡ at d.values k
+    aux-off r h None d = refl
+    aux-off r h (Some i) d = read-off r 1 h (omega arith) i.read d
 
     pub draws-off : (n : ℕ) → n ≤ route_total st.program → (d : Drawn) → at (draw_routes st n d).values k ≡ at d.values k
     unfolding draw_routes

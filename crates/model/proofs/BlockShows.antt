@@ -11,6 +11,7 @@ use lib.Dec.{eqb, ltb}
 use lib.ListN.{length, get_or}
 use lib.Ieee.{Float, nan}
 use borrow.Author.Tests.{eq-eqb, eqb-true, lt-ltb, le-ltb, ltb-false}
+use Rattle.std.specs.Prelude.{Some, None}
 use Rattle.list.specs.Part.{part}
 use Rattle.list.proofs.Parts.{part_at}
 use Rattle.list.proofs.Rows.{row_inside}
@@ -21,8 +22,7 @@ use Rattle.refusal.specs.Judge.{◌when◌, judged}
 use Rattle.feed.specs.Numbers.{In, index_of}
 use Rattle.feed.proofs.Keep.{keep-from}
 use Rattle.state.specs.declared.Block.{Block}
-use Rattle.state.specs.declared.ChunkRead.TheVariants as C
-use Rattle.state.specs.declared.Output.TheVariants as O
+use Rattle.state.specs.Output as O
 use Rattle.state.specs.declared.Wiring.{Wiring}
 use Rattle.state.specs.declared.Program.{Program}
 use Rattle.state.specs.declared.Signals.{Signals}
@@ -184,9 +184,9 @@ module _ (w : Wiring) (slotted : length w.matrix.slot ≡ slots) (samples : List
     y-good : Good w y
     y-good = good-frame y-frame good
 
-    chunk-there : chunk_at v.state n ≡ C.Chunk (chunk_of b n)
+    chunk-there : chunk_at v.state n ≡ Some (chunk_of b n)
     unfolding chunk_at put_state with_block
-    chunk-there = cond-true (ltb n (chunk_total b)) (C.Chunk (chunk_of b n)) C.Nothing (lt-ltb n (chunk_total b) there)
+    chunk-there = cond-true (ltb n (chunk_total b)) (Some (chunk_of b n)) None (lt-ltb n (chunk_total b) there)
 
     module _ (d : ℕ) (control : In d (controls w)) where
       used : In d (in_use w)

@@ -13,16 +13,12 @@ use lib.ListN.{length, get_or}
 use Rattle.config.specs.Sizes.{slots}
 use Rattle.state.specs.declared.Sources.{Sources}
 use Rattle.state.specs.declared.Destinations.{Destinations}
-use Rattle.state.specs.declared.Pick.{Pick}
-use Rattle.state.specs.declared.Pick.TheVariants as P
-use Rattle.state.specs.declared.Aim.{Aim}
-use Rattle.state.specs.declared.Aim.TheVariants as A
+use Rattle.std.specs.Prelude.{Option, None, Some}
+use Rattle.state.specs.declared.Target.{Target}
 use Rattle.state.specs.declared.Slot.{Slot}
 use Rattle.state.specs.declared.Reason.TheVariants.{UnknownSource, UnknownAux, UnknownDestination}
 use Rattle.state.specs.declared.Skipped.{Skipped}
 use Rattle.state.specs.declared.Wiring.{Wiring}
-use Rattle.state.specs.declared.AuxSource.{AuxSource}
-use Rattle.state.specs.declared.AuxSource.TheVariants as X
 use Rattle.state.specs.declared.Candidate.{Candidate}
 use Rattle.state.specs.declared.Verdict.{Verdict}
 use Rattle.state.specs.declared.Verdict.TheVariants.{Over, LeftOut, Taken}
@@ -90,9 +86,9 @@ left_out-append n (v ∷ vs) ws = go v (left_out-append (suc n) vs ws ∙ ap (λ
 
 -- ---- what is known of a candidate
 
-abbrev pub AuxIn : Sources → AuxSource → Type 0
-AuxIn ss X.Nothing = Unit {0}
-AuxIn ss (X.Source i) = known_source ss i ≡ true
+abbrev pub AuxIn : Sources → Option ℕ → Type 0
+AuxIn ss None = Unit {0}
+AuxIn ss (Some i) = known_source ss i ≡ true
 
 -- of a slot from n on and before m
 pub record Known (ss : Sources) (ds : Destinations) (n m : ℕ) (c : Candidate) : Type 0 where
@@ -108,11 +104,11 @@ module _ (ss : Sources) (ds : Destinations) where
   KnownIn n m (LeftOut r) = Unit {0}
   KnownIn n m (Taken c) = Known ss ds n m c
 
-  aux-in : (aux : Pick) → aux_known ss aux ≡ true → AuxIn ss (aux_of aux)
-  aux-in P.Nothing h = tt
-  aux-in (P.Source i) h = h
+  aux-in : (aux : Option ℕ) → aux_known ss aux ≡ true → AuxIn ss (aux_of aux)
+  aux-in None h = tt
+  aux-in (Some i) h = h
 
-  looked-known : (n m i : ℕ) (aux : Pick) (d : ℕ) → n < m → KnownIn n m (looked ss ds n i aux d)
+  looked-known : (n m i : ℕ) (aux : Option ℕ) (d : ℕ) → n < m → KnownIn n m (looked ss ds n i aux d)
   looked-known n m i aux d h = go (known_source ss i) (aux_known ss aux) (ltb d (dest_count ds)) refl refl refl
     where
       go : (s a t : Bool) → known_source ss i ≡ s → aux_known ss aux ≡ a → ltb d (dest_count ds) ≡ t
@@ -122,11 +118,11 @@ module _ (ss : Sources) (ds : Destinations) where
       go true true false p q r = tt
       go true true true p q r = record { dest = ltb-true d (dest_count ds) r; source = p; aux = aux-in aux q; from = omega arith; below = h }
 
-  by-known : (n m : ℕ) (bypass : Bool) (aux s : Pick) (a : Aim) → n < m → KnownIn n m (verdict_by ss ds n bypass aux s a)
-  by-known n m b aux P.Nothing a h = tt
-  by-known n m b aux (P.Source i) A.Nothing h = tt
-  by-known n m true aux (P.Source i) (A.At t) h = tt
-  by-known n m false aux (P.Source i) (A.At t) h = looked-known n m i aux (dest_place ds t) h
+  by-known : (n m : ℕ) (bypass : Bool) (aux s : Option ℕ) (a : Option Target) → n < m → KnownIn n m (verdict_by ss ds n bypass aux s a)
+  by-known n m b aux None a h = tt
+  by-known n m b aux (Some i) None h = tt
+  by-known n m true aux (Some i) (Some t) h = tt
+  by-known n m false aux (Some i) (Some t) h = looked-known n m i aux (dest_place ds t) h
 
   verdict-known : (n m : ℕ) (s : Slot) → n < m → KnownIn n m (verdict ss ds n s)
   unfolding verdict

@@ -5,11 +5,11 @@ use mathlib.Core.List.{List}
 use Prim.Native.Nat.{ℕ, zero, suc, ◌+◌, ◌-◌}
 use lib.ListN.{length, length-set, get_or, set}
 use lib.Ieee.{Float}
+use Rattle.std.specs.Prelude.{Option, Some, None}
 use Rattle.draw.specs.Xorshift.{step, draw_of}
 use Rattle.state.specs.declared.Read.{Read}
 use Rattle.state.specs.declared.Read.TheVariants as D
-use Rattle.state.specs.declared.Aux.{Aux}
-use Rattle.state.specs.declared.Aux.TheVariants as X
+use Rattle.state.specs.declared.Input.{Input}
 use Rattle.state.specs.declared.Block.{Block}
 use Rattle.state.specs.declared.Chunk.{Chunk}
 use Rattle.state.specs.declared.Signals.{Signals}
@@ -75,9 +75,9 @@ read_length st r p (D.Fed e v) d = refl
 read_length st r p D.Constant d = refl
 read_length st r p D.RouteRandom d = voices-length st (random_start st r p) (voice_count st) d
 
-aux-length : (st : State) (r : ℕ) (x : Aux) (d : Drawn) → length (draw_aux st r x d).values ≡ length d.values
-aux-length st r X.Missing d = refl
-aux-length st r (X.With i) d = read_length st r 1 i.read d
+aux-length : (st : State) (r : ℕ) (x : Option Input) (d : Drawn) → length (draw_aux st r x d).values ≡ length d.values
+aux-length st r None d = refl
+aux-length st r (Some i) d = read_length st r 1 i.read d
 
 routes-length : (st : State) (n : ℕ) (d : Drawn) → length (draw_routes st n d).values ≡ length d.values
 unfolding draw_routes

@@ -24,8 +24,9 @@ use Rattle.feed.proofs.Acyclic.{ordered-exactly, feeder-first}
 use Rattle.state.specs.declared.Base.{Base}
 use Rattle.state.specs.declared.Base.TheVariants as B
 use Rattle.state.specs.declared.Candidate.{Candidate}
-use Rattle.state.specs.declared.Feeder.{Feeder}
-use Rattle.state.specs.declared.Feeder.TheVariants as E
+use Rattle.std.specs.Prelude.{Option, None}
+use Rattle.state.specs.Fed.{by_dest}
+use Rattle.state.specs.declared.FedBy.{FedBy}
 use Rattle.state.specs.declared.Used.{Used}
 use Rattle.state.specs.declared.Wiring.{Wiring}
 use Rattle.state.specs.Registry.{dest_at}
@@ -69,13 +70,13 @@ keep-lengths p (x ∷ l) = go (which (p x)) (keep-lengths p l)
 -- ---- who is read
 
 -- one of the list that feeds the thing, or the one found before
-last-from : (g : ℕ → Used) (t : Base) (found : Feeder) (l : List ℕ) (a : ℕ) → ((d : ℕ) → (g d).dest ≡ d) → is_it a (last_feeder t found (map g l)) ≡ true
+last-from : (g : ℕ → Used) (t : Base) (found : Option FedBy) (l : List ℕ) (a : ℕ) → ((d : ℕ) → (g d).dest ≡ d) → is_it a (last_feeder t found (map g l)) ≡ true
     → (is_it a found ≡ true) ⊎ (In a l × (same_thing (g a).feed t ≡ true))
 last-from g t found [] a named h = inl h
-last-from g t found (d ∷ l) a named h = go (which (same_thing (g d).feed t)) (last-from g t (cond (same_thing (g d).feed t) (E.Dest (g d).dest (g d).voice) found) l a named h)
+last-from g t found (d ∷ l) a named h = go (which (same_thing (g d).feed t)) (last-from g t (cond (same_thing (g d).feed t) (by_dest (g d).dest (g d).voice) found) l a named h)
   where
     go : (same_thing (g d).feed t ≡ true) ⊎ (same_thing (g d).feed t ≡ false)
-        → (is_it a (cond (same_thing (g d).feed t) (E.Dest (g d).dest (g d).voice) found) ≡ true) ⊎ (In a l × (same_thing (g a).feed t ≡ true))
+        → (is_it a (cond (same_thing (g d).feed t) (by_dest (g d).dest (g d).voice) found) ≡ true) ⊎ (In a l × (same_thing (g a).feed t ≡ true))
         → (is_it a found ≡ true) ⊎ (In a (d ∷ l) × (same_thing (g a).feed t ≡ true))
     go s (inr k) = inr (omega (arith, k.0), k.1)
     go (inr s) (inl k) = inl (rw s at k)
@@ -94,11 +95,11 @@ fed-control (B.Amount i) t audio h = refl
 fed-control (B.Output i) t audio h = refl
 
 -- who is read by a route feeds one of its things
-pub record Feeds (feeder : Base → Feeder) (a : ℕ) : Type 0 where
+pub record Feeds (feeder : Base → Option FedBy) (a : ℕ) : Type 0 where
   pub onto : Base
   pub read : is_it a (feeder onto) ≡ true
 
-among-from : (feeder : Base → Feeder) (a : ℕ) (c : Candidate) → is_among a (reader_by feeder c) ≡ true → Feeds feeder a
+among-from : (feeder : Base → Option FedBy) (a : ℕ) (c : Candidate) → is_among a (reader_by feeder c) ≡ true → Feeds feeder a
 among-from feeder a c h =
     go (or-true-cases (is_it a (feeder (B.Held c.source))) (is_it a (feeder (aux_thing c.aux)) || (is_it a (feeder (B.Amount c.slot)) || is_it a (feeder (B.Output c.slot)))) h)
   where
@@ -115,7 +116,7 @@ among-from feeder a c h =
     go (inl t) = record { onto = B.Held c.source; read = t }
     go (inr t) = later (or-true-cases (is_it a (feeder (aux_thing c.aux))) (is_it a (feeder (B.Amount c.slot)) || is_it a (feeder (B.Output c.slot))) t)
 
-any-from : (feeder : Base → Feeder) (a b : ℕ) (cs : List Candidate) → any_reads a b (map (reader_by feeder) cs) ≡ true → Feeds feeder a
+any-from : (feeder : Base → Option FedBy) (a b : ℕ) (cs : List Candidate) → any_reads a b (map (reader_by feeder) cs) ≡ true → Feeds feeder a
 any-from feeder a b [] h = absurd (let z : ◌≡◌ {A = ℕ} 0 1 = cc in omega arith)
 any-from feeder a b (c ∷ cs) h =
     go (or-true-cases (eqb c.dest b && is_among a (reader_by feeder c)) (any_reads a b (map (reader_by feeder) cs)) h) (any-from feeder a b cs)
@@ -194,9 +195,9 @@ module _ (w : Wiring) where
   unfolding controls is_audio reads readers_of feeder_of used_dests in_use
   read-is-control a b h =
       let r = any-from (feeder_of w) a b (candidates w) h in
-      go r.onto (last-from (λ d. used_as w.sources (candidates w) d (dest_at w.dests d)) r.onto E.Nothing (in_use w) a (λ d. refl) r.read)
+      go r.onto (last-from (λ d. used_as w.sources (candidates w) d (dest_at w.dests d)) r.onto None (in_use w) a (λ d. refl) r.read)
     where
-      go : (t : Base) → (is_it a E.Nothing ≡ true) ⊎ (In a (in_use w) × (same_thing (counted w.sources (dest_at w.dests a).feed) t ≡ true)) → In a (controls w)
+      go : (t : Base) → (is_it a None ≡ true) ⊎ (In a (in_use w) × (same_thing (counted w.sources (dest_at w.dests a).feed) t ≡ true)) → In a (controls w)
       go t (inl z) = absurd (let z : ◌≡◌ {A = ℕ} 0 1 = cc in omega arith)
       go t (inr k) =
           keep-in (λ d. not (is_audio w d)) a (in_use w) k.0

@@ -19,17 +19,15 @@ use Rattle.state.specs.declared.Slot.{Slot}
 use Rattle.state.specs.declared.Sources.{Sources}
 use Rattle.state.specs.declared.Destinations.{Destinations}
 use Rattle.state.specs.declared.Base.{Base}
-use Rattle.state.specs.declared.Feeder.{Feeder}
+use Rattle.std.specs.Prelude.{Option, None, Some}
+use Rattle.state.specs.declared.FedBy.{FedBy}
+use Rattle.state.specs.declared.Target.{Target}
 use Rattle.state.specs.declared.Plan.{Plan}
 use Rattle.state.specs.declared.Route.{Route}
 use Rattle.state.specs.declared.Candidate.{Candidate}
 use Rattle.state.specs.declared.Reader.{Reader}
 use Rattle.state.specs.declared.Verdict.{Verdict}
 use Rattle.state.specs.declared.Verdict.TheVariants.{Over, LeftOut, Taken}
-use Rattle.state.specs.declared.Pick.{Pick}
-use Rattle.state.specs.declared.Pick.TheVariants as P
-use Rattle.state.specs.declared.Aim.{Aim}
-use Rattle.state.specs.declared.Aim.TheVariants as A
 use Rattle.state.specs.Registry.{known_source, dest_count, dest_at, dest_place}
 use Rattle.model.specs.Wiring.{aux_known, looked, verdict_by, verdict, verdicts_from, with_candidate, taken_of}
 use Rattle.model.specs.Feeds.{is_voice, counted, audio_in, reader_by}
@@ -44,7 +42,7 @@ use Rattle.model.proofs.Ordered.{count-append}
 -- ---- the slots of a destination
 
 -- the readers into a destination are those of its slots
-pub readers-into : (g : Base → Feeder) (d : ℕ) (cs : List Candidate) → readers_into d (map (reader_by g) cs) ≡ map (reader_by g) (candidates_into d cs)
+pub readers-into : (g : Base → Option FedBy) (d : ℕ) (cs : List Candidate) → readers_into d (map (reader_by g) cs) ≡ map (reader_by g) (candidates_into d cs)
 readers-into g d [] = refl
 readers-into g d (c ∷ cs) = go (which (eqb c.dest d)) (readers-into g d cs)
   where
@@ -65,7 +63,7 @@ into-dest d (c ∷ cs) j z h = go (which (eqb c.dest d)) j h (into-dest d cs)
     go (inl t) (suc j) h ih = rw t (ih j z (omega (arith, rw t at h)))
     go (inr t) j h ih = rw t (ih j z (rw t at h))
 
-pub all_in : (g : Base → Feeder) (l : List ℕ) (cs : List Candidate) → ((c : Candidate) → Memᴰ c cs → In c.dest l) → AllIn l (map (reader_by g) cs)
+pub all_in : (g : Base → Option FedBy) (l : List ℕ) (cs : List Candidate) → ((c : Candidate) → Memᴰ c cs → In c.dest l) → AllIn l (map (reader_by g) cs)
 all_in g l [] h = tt
 all_in g l (c ∷ cs) h = (h c (Memᴰ.head refl), all_in g l cs (λ x m. h x (Memᴰ.tail m)))
 
@@ -118,7 +116,7 @@ module _ (ss : Sources) (ds : Destinations) (cs : List Candidate) (rs : List Rea
 
 -- ---- routes
 
-module _ (rate : Float) (ss : Sources) (ds : Destinations) (ms : List Slot) (g : Base → Feeder) (cs : List Candidate) (os : List ℕ) where
+module _ (rate : Float) (ss : Sources) (ds : Destinations) (ms : List Slot) (g : Base → Option FedBy) (cs : List Candidate) (os : List ℕ) where
   abbrev rs : List Reader
   rs = map (reader_by g) cs
 
@@ -211,7 +209,7 @@ over-bound : (n : ℕ) (l : List ℕ) (cs : List Candidate) → Distinct l → t
 over-bound n l [] once = omega (arith, none_over n l)
 over-bound n l (c ∷ cs) once = omega (arith, more-over n l c cs once, over-bound n l cs once)
 
-module _ (rate : Float) (ss : Sources) (ds : Destinations) (ms : List Slot) (g : Base → Feeder) (cs : List Candidate) (os : List ℕ) where
+module _ (rate : Float) (ss : Sources) (ds : Destinations) (ms : List Slot) (g : Base → Option FedBy) (cs : List Candidate) (os : List ℕ) where
   slots_same : (v : Bool) (l : List Candidate) → route_slots (routes_in rate ss os ms v (map (reader_by g) l)) ≡ slots_of l
   unfolding route_in route_by
   slots_same v [] = refl
@@ -242,7 +240,7 @@ module _ (ss : Sources) (ds : Destinations) where
   Numbered n (LeftOut r) = Unit {0}
   Numbered n (Taken c) = c.slot ≡ n
 
-  looked-numbered : (n i : ℕ) (aux : Pick) (d : ℕ) → Numbered n (looked ss ds n i aux d)
+  looked-numbered : (n i : ℕ) (aux : Option ℕ) (d : ℕ) → Numbered n (looked ss ds n i aux d)
   looked-numbered n i aux d = go (which (known_source ss i)) (which (aux_known ss aux)) (which (ltb d (dest_count ds)))
     where
       go : (known_source ss i ≡ true) ⊎ (known_source ss i ≡ false) → (aux_known ss aux ≡ true) ⊎ (aux_known ss aux ≡ false)
@@ -252,11 +250,11 @@ module _ (ss : Sources) (ds : Destinations) where
       go (inl s) (inl a) (inr t) = rw (s, a, t) tt
       go (inl s) (inl a) (inl t) = rw (s, a, t) refl
 
-  by-numbered : (n : ℕ) (bypass : Bool) (aux s : Pick) (a : Aim) → Numbered n (verdict_by ss ds n bypass aux s a)
-  by-numbered n b aux P.Nothing a = tt
-  by-numbered n b aux (P.Source i) A.Nothing = tt
-  by-numbered n true aux (P.Source i) (A.At t) = tt
-  by-numbered n false aux (P.Source i) (A.At t) = looked-numbered n i aux (dest_place ds t)
+  by-numbered : (n : ℕ) (bypass : Bool) (aux s : Option ℕ) (a : Option Target) → Numbered n (verdict_by ss ds n bypass aux s a)
+  by-numbered n b aux None a = tt
+  by-numbered n b aux (Some i) None = tt
+  by-numbered n true aux (Some i) (Some t) = tt
+  by-numbered n false aux (Some i) (Some t) = looked-numbered n i aux (dest_place ds t)
 
   numbered : (n : ℕ) (s : Slot) → Numbered n (verdict ss ds n s)
   unfolding verdict

@@ -1,6 +1,6 @@
 -- WHAT IS READ IS COUNTED: what a slot's route reads is a control destination in use, read with its own scope; every feed that is read is counted; and so, without a chain
 -- of counted feeds, what is read stands first. Assumes nothing.
-use mathlib.Core.Path.{◌≡◌, refl, sym, ap, ◌∙◌}
+use mathlib.Core.Path.{◌≡◌, refl, sym, ap, ap₂, ◌∙◌}
 use mathlib.Core.Logic.{◌≢◌, ◌⊎◌, inl, inr}
 use mathlib.Core.Bool.{Bool, true, false, cond, not, ◌&&◌, ◌||◌}
 use mathlib.Core.List.{List, [], ◌∷◌, map}
@@ -22,11 +22,10 @@ use Rattle.state.specs.declared.Base.{Base}
 use Rattle.state.specs.declared.Base.TheVariants as B
 use Rattle.state.specs.declared.Read.TheVariants as D
 use Rattle.state.specs.declared.Gain.TheVariants as G
-use Rattle.state.specs.declared.AuxSource.{AuxSource}
-use Rattle.state.specs.declared.AuxSource.TheVariants as U
+use Rattle.std.specs.Prelude.{Option, None, Some}
+use Rattle.state.specs.Fed.{by_dest}
+use Rattle.state.specs.declared.FedBy.{FedBy}
 use Rattle.state.specs.declared.Candidate.{Candidate}
-use Rattle.state.specs.declared.Feeder.{Feeder}
-use Rattle.state.specs.declared.Feeder.TheVariants as E
 use Rattle.state.specs.declared.Used.{Used}
 use Rattle.state.specs.declared.Wiring.{Wiring}
 use Rattle.state.specs.Registry.{source_at, dest_at}
@@ -55,38 +54,49 @@ and-and false y y' q h = h
 
 -- ---- the feeder that is read
 
+abbrev dest_found : Option FedBy → ℕ
+dest_found None = 0
+dest_found (Some f) = f.dest
+
+abbrev voice_found : Option FedBy → Bool
+voice_found None = false
+voice_found (Some f) = f.voice
+
 -- a feeder that is found is the one found before, or one of the list that feeds the thing, with its own scope
-last-is : (g : ℕ → Used) (t : Base) (found : Feeder) (l : List ℕ) (a : ℕ) (v : Bool) → ((d : ℕ) → (g d).dest ≡ d) → last_feeder t found (map g l) ≡ E.Dest a v
-    → (found ≡ E.Dest a v) ⊎ (In a l × ((same_thing (g a).feed t ≡ true) × (v ≡ (g a).voice)))
+last-is : (g : ℕ → Used) (t : Base) (found : Option FedBy) (l : List ℕ) (a : ℕ) (v : Bool) → ((d : ℕ) → (g d).dest ≡ d) → last_feeder t found (map g l) ≡ by_dest a v
+    → (found ≡ by_dest a v) ⊎ (In a l × ((same_thing (g a).feed t ≡ true) × (v ≡ (g a).voice)))
 last-is g t found [] a v named h = inl h
 last-is g t found (d ∷ l) a v named h =
-    go (which (same_thing (g d).feed t)) (last-is g t (cond (same_thing (g d).feed t) (E.Dest (g d).dest (g d).voice) found) l a v named h)
+    go (which (same_thing (g d).feed t)) (last-is g t (cond (same_thing (g d).feed t) (by_dest (g d).dest (g d).voice) found) l a v named h)
   where
     go : (same_thing (g d).feed t ≡ true) ⊎ (same_thing (g d).feed t ≡ false)
-        → (cond (same_thing (g d).feed t) (E.Dest (g d).dest (g d).voice) found ≡ E.Dest a v) ⊎ (In a l × ((same_thing (g a).feed t ≡ true) × (v ≡ (g a).voice)))
-        → (found ≡ E.Dest a v) ⊎ (In a (d ∷ l) × ((same_thing (g a).feed t ≡ true) × (v ≡ (g a).voice)))
+        → (cond (same_thing (g d).feed t) (by_dest (g d).dest (g d).voice) found ≡ by_dest a v) ⊎ (In a l × ((same_thing (g a).feed t ≡ true) × (v ≡ (g a).voice)))
+        → (found ≡ by_dest a v) ⊎ (In a (d ∷ l) × ((same_thing (g a).feed t ≡ true) × (v ≡ (g a).voice)))
     go s (inr k) = inr (omega (arith, k.0), k.1)
     go (inr s) (inl k) = inl (rw s at k)
     go (inl s) (inl k) =
-        let m : E.Dest (g d).dest (g d).voice ≡ E.Dest a v = rw s at k in
-        let n : (g d).dest ≡ a = cc in
-        let o : (g d).voice ≡ v = cc in
+        let m : by_dest (g d).dest (g d).voice ≡ by_dest a v = rw s at k in
+        let n : (g d).dest ≡ a = ap dest_found m in
+        let o : (g d).voice ≡ v = ap voice_found m in
         let e : a ≡ d = sym n ∙ named d in
         inr (rw e (omega (arith, hit_same d)), (rw e s, sym o ∙ ap (λ (x : ℕ). (g x).voice) (sym e)))
 
 -- who is found is somebody, with a scope
-is-it : (a : ℕ) (e : Feeder) → is_it a e ≡ true → (v : Bool) × (e ≡ E.Dest a v)
-is-it a E.Nothing h = absurd (let z : ◌≡◌ {A = ℕ} 0 1 = cc in omega arith)
-is-it a (E.Dest d v) h = (v, ap (λ (x : ℕ). E.Dest x v) (sym (eqb-true a d h)))
+is-it : (a : ℕ) (e : Option FedBy) → is_it a e ≡ true → (v : Bool) × (e ≡ by_dest a v)
+is-it a None h = absurd (let z : ◌≡◌ {A = ℕ} 0 1 = cc in omega arith)
+is-it a (Some f) h = (f.voice, ap (λ (x : ℕ). by_dest x f.voice) (sym (eqb-true a f.dest h)))
 
-it-is : (a : ℕ) (v : Bool) (e : Feeder) → e ≡ E.Dest a v → is_it a e ≡ true
+it-is : (a : ℕ) (v : Bool) (e : Option FedBy) → e ≡ by_dest a v → is_it a e ≡ true
 it-is a v e h = rw h (eq-eqb a a refl)
 
 -- ---- what a fed input says of its feeder: that it is there
 
-gain-from : (x : Feeder) (e : ℕ) (v : Bool) → fed_from x ≡ G.Fed e v → x ≡ E.Dest e v
-gain-from E.Nothing e v h = cc
-gain-from (E.Dest d u) e v h = cc
+gain-from : (x : Option FedBy) (e : ℕ) (v : Bool) → fed_from x ≡ G.Fed e v → x ≡ by_dest e v
+gain-from None e v h = cc
+gain-from (Some f) e v h =
+    let n : f.dest ≡ e = cc in
+    let o : f.voice ≡ v = cc in
+    ap₂ by_dest n o
 
 unfed-never : (k : Kind) (i : ℕ) (u : Bool) (e : ℕ) (v : Bool) → unfed_read k i u ≡ D.Fed e v → ⊥
 unfed-never K.Signal i u e v h = let z : ◌≡◌ {A = ℕ} 0 1 = cc in omega arith
@@ -101,14 +111,17 @@ unfed-never K.RandomPerRoute i u e v h = let z : ◌≡◌ {A = ℕ} 0 1 = cc in
 unfed-never K.VoiceLoad i u e v h = let z : ◌≡◌ {A = ℕ} 0 1 = cc in omega arith
 unfed-never K.Constant i u e v h = let z : ◌≡◌ {A = ℕ} 0 1 = cc in omega arith
 
-read-from : (s : Source) (i : ℕ) (x : Feeder) (e : ℕ) (v : Bool) → read_by s i (fed_from x) ≡ D.Fed e v → x ≡ E.Dest e v
-read-from s i E.Nothing e v h = absurd (unfed-never s.kind i (is_voice s.scope) e v h)
-read-from s i (E.Dest d u) e v h = cc
+read-from : (s : Source) (i : ℕ) (x : Option FedBy) (e : ℕ) (v : Bool) → read_by s i (fed_from x) ≡ D.Fed e v → x ≡ by_dest e v
+read-from s i None e v h = absurd (unfed-never s.kind i (is_voice s.scope) e v h)
+read-from s i (Some f) e v h =
+    let n : f.dest ≡ e = cc in
+    let o : f.voice ≡ v = cc in
+    ap₂ by_dest n o
 
 -- ---- slots into a destination
 
 -- who is read by one of the slots is read by the destination
-into-reads : (feeder : Base → Feeder) (a d : ℕ) (cs : List Candidate) (j : ℕ) → j < length (candidates_into d cs)
+into-reads : (feeder : Base → Option FedBy) (a d : ℕ) (cs : List Candidate) (j : ℕ) → j < length (candidates_into d cs)
     → is_among a (reader_by feeder (get_or (candidates_into d cs) j no_candidate)) ≡ true → any_reads a d (map (reader_by feeder) cs) ≡ true
 into-reads feeder a d [] j h m = absurd (omega arith)
 into-reads feeder a d (c ∷ cs) j h m = go (into-reads feeder a d cs) (which (eqb c.dest d)) j h m
@@ -126,7 +139,7 @@ into-reads feeder a d (c ∷ cs) j h m = go (into-reads feeder a d cs) (which (e
 
 -- ---- who is read feeds what it is read for
 
-module _ (feeder : Base → Feeder) (thing : Base) (a b : ℕ) (onto : (t : Base) → is_it a (feeder t) ≡ true → same_thing thing t ≡ true) where
+module _ (feeder : Base → Option FedBy) (thing : Base) (a b : ℕ) (onto : (t : Base) → is_it a (feeder t) ≡ true → same_thing thing t ≡ true) where
   among-onto : (c : Candidate) → is_among a (reader_by feeder c) ≡ true → is_onto thing c ≡ true
   among-onto c =
       let t₀ = B.Held c.source in
@@ -147,16 +160,16 @@ module _ (feeder : Base → Feeder) (thing : Base) (a b : ℕ) (onto : (t : Base
 
 module _ (w : Wiring) where
   -- the feeder of a thing is in use, its counted feed is onto the thing, and it is read with its own scope
-  feeder-is : (t : Base) (a : ℕ) (v : Bool) → feeder_of w t ≡ E.Dest a v → In a (in_use w) × ((same_thing (counted_feed w a) t ≡ true) × (v ≡ dest_voice w a))
+  feeder-is : (t : Base) (a : ℕ) (v : Bool) → feeder_of w t ≡ by_dest a v → In a (in_use w) × ((same_thing (counted_feed w a) t ≡ true) × (v ≡ dest_voice w a))
   unfolding feeder_of used_dests in_use counted_feed
   feeder-is t a v h =
-      elim (last-is (λ d. used_as w.sources (candidates w) d (dest_at w.dests d)) t E.Nothing (in_use w) a v (λ d. refl) h) [
+      elim (last-is (λ d. used_as w.sources (candidates w) d (dest_at w.dests d)) t None (in_use w) a v (λ d. refl) h) [
         | inl z ↦ absurd (let z : ◌≡◌ {A = ℕ} 0 1 = cc in omega arith)
         | inr k ↦ k
       ]
 
   -- and it is a control destination
-  feeder-control : (t : Base) (a : ℕ) (v : Bool) → feeder_of w t ≡ E.Dest a v → In a (controls w) × (v ≡ dest_voice w a)
+  feeder-control : (t : Base) (a : ℕ) (v : Bool) → feeder_of w t ≡ by_dest a v → In a (controls w) × (v ≡ dest_voice w a)
   unfolding controls is_audio counted_feed
   feeder-control t a v h =
       let k = feeder-is t a v h in (
@@ -170,14 +183,14 @@ module _ (w : Wiring) where
   -- one of the four things of a candidate has the feeder
   record Fed (c : Candidate) (e : ℕ) (v : Bool) : Type 0 where
     thing : Base
-    feeder : feeder_of w thing ≡ E.Dest e v
+    feeder : feeder_of w thing ≡ by_dest e v
     among : is_among e (reader_by (feeder_of w) c) ≡ true
 
-  aux-from : (a : AuxSource) (c : Candidate) (e : ℕ) (v : Bool)
-      → AuxReads e v (aux_by w.config.sample_rate w.sources a (fed_from (feeder_of w (aux_thing a))) (slot_of w c).aux_curve) → feeder_of w (aux_thing a) ≡ E.Dest e v
+  aux-from : (a : Option ℕ) (c : Candidate) (e : ℕ) (v : Bool)
+      → AuxReads e v (aux_by w.config.sample_rate w.sources a (fed_from (feeder_of w (aux_thing a))) (slot_of w c).aux_curve) → feeder_of w (aux_thing a) ≡ by_dest e v
   unfolding input_by
-  aux-from U.Nothing c e v h = absurd h
-  aux-from (U.Source i) c e v h = read-from (source_at w.sources i) i (feeder_of w (B.Held i)) e v h
+  aux-from None c e v h = absurd h
+  aux-from (Some i) c e v h = read-from (source_at w.sources i) i (feeder_of w (B.Held i)) e v h
 
   fed_by : (c : Candidate) (e : ℕ) (v : Bool) → Reads e v (slot_route w c) → Fed c e v
   unfolding slot_route route_by input_by

@@ -18,7 +18,7 @@ use Rattle.feed.proofs.Tests.{which}
 use Rattle.state.specs.declared.Sources.{Sources}
 use Rattle.state.specs.declared.Destinations.{Destinations}
 use Rattle.state.specs.declared.Signals.{Signals}
-use Rattle.state.specs.declared.Reading.TheVariants as R
+use Rattle.state.specs.Reading as R
 use Rattle.state.specs.declared.State.{State}
 use Rattle.model.specs.World.{World, held_place}
 use Rattle.model.specs.States.{with_gains, with_draw, with_limit, put_state, put_held, put_bases}

@@ -1,5 +1,6 @@
 -- A PLAN'S NUMBERS ARE THOSE OF ITS DESTINATION'S SLOTS: a compiled route names the place of a feeder in the order where the slot's route names the destination, and is else
 -- the same; read through rows by place it gives what the slot's route gives through the same rows by destination. Assumes nothing.
+use Rattle.std.specs.Prelude.{Option, Some, None}
 use mathlib.Core.Path.{◌≡◌, refl, sym, ap, ◌∙◌}
 use mathlib.Core.Bool.{Bool, true, false}
 use mathlib.Core.List.{List}
@@ -18,16 +19,11 @@ use Rattle.state.specs.declared.Slot.{Slot}
 use Rattle.state.specs.declared.Read.{Read}
 use Rattle.state.specs.declared.Read.TheVariants as D
 use Rattle.state.specs.declared.Input.{Input}
-use Rattle.state.specs.declared.Aux.{Aux}
-use Rattle.state.specs.declared.Aux.TheVariants as X
 use Rattle.state.specs.declared.Gain.{Gain}
 use Rattle.state.specs.declared.Gain.TheVariants as G
 use Rattle.state.specs.declared.Route.{Route}
-use Rattle.state.specs.declared.AuxSource.{AuxSource}
-use Rattle.state.specs.declared.AuxSource.TheVariants as U
+use Rattle.state.specs.declared.FedBy.{FedBy}
 use Rattle.state.specs.declared.Candidate.{Candidate}
-use Rattle.state.specs.declared.Feeder.{Feeder}
-use Rattle.state.specs.declared.Feeder.TheVariants as E
 use Rattle.state.specs.declared.Wiring.{Wiring}
 use Rattle.state.specs.Registry.{source_at}
 use Rattle.model.specs.Feeds.{is_voice, dest_voice, feeder_of, aux_thing, reader_by}
@@ -35,7 +31,6 @@ use Rattle.model.specs.Routes.{linked, voice_gain, live_gain, unfed_read, read_b
 use Rattle.model.specs.Env.{Env, Rows, Own}
 use Rattle.model.specs.Mix.{Mix}
 use Rattle.model.specs.Input.{read_in, input_in}
-use Rattle.model.specs.Lanes.{Lane, lane, nowhere}
 use Rattle.model.specs.RouteValue.{source_in, sourced, with_aux, gain_in, gained, route_value, idle, whole_row, plain}
 use Rattle.model.specs.Sums.{base_in, offsets, some_plain, plains, has_plain, add_lane, others, begun, tick_sum}
 use Rattle.model.specs.Slews.{moves_in, aux_slew, source_after, aux_after}
@@ -59,9 +54,9 @@ module _ (os : List ℕ) where
   abbrev placed_input : Input → Input
   placed_input i = record { read = placed_read i.read; bipolar = i.bipolar; table = i.table; slew = i.slew }
 
-  abbrev placed_aux : Aux → Aux
-  placed_aux X.Missing = X.Missing
-  placed_aux (X.With i) = X.With (placed_input i)
+  abbrev placed_aux : Option Input → Option Input
+  placed_aux None = None
+  placed_aux (Some i) = Some (placed_input i)
 
   abbrev placed_route : Route → Route
   placed_route r =
@@ -81,9 +76,9 @@ module _ (os : List ℕ) where
 
   -- ---- as which it is compiled
 
-  gain-linked : (e : Feeder) → linked os e ≡ placed_gain (fed_from e)
-  gain-linked E.Nothing = refl
-  gain-linked (E.Dest d v) = refl
+  gain-linked : (e : Option FedBy) → linked os e ≡ placed_gain (fed_from e)
+  gain-linked None = refl
+  gain-linked (Some f) = refl
 
   unfed-placed : (k : Kind) (i : ℕ) (v : Bool) → unfed_read k i v ≡ placed_read (unfed_read k i v)
   unfed-placed K.Signal i v = refl
@@ -98,17 +93,17 @@ module _ (os : List ℕ) where
   unfed-placed K.VoiceLoad i v = refl
   unfed-placed K.Constant i v = refl
 
-  read-linked : (s : Source) (i : ℕ) (e : Feeder) → read_by s i (linked os e) ≡ placed_read (read_by s i (fed_from e))
-  read-linked s i E.Nothing = unfed-placed s.kind i (is_voice s.scope)
-  read-linked s i (E.Dest d v) = refl
+  read-linked : (s : Source) (i : ℕ) (e : Option FedBy) → read_by s i (linked os e) ≡ placed_read (read_by s i (fed_from e))
+  read-linked s i None = unfed-placed s.kind i (is_voice s.scope)
+  read-linked s i (Some f) = refl
 
-  input-linked : (rate : Float) (s : Source) (i : ℕ) (e : Feeder) (c : Curve) → input_by rate s i (linked os e) c ≡ placed_input (input_by rate s i (fed_from e) c)
+  input-linked : (rate : Float) (s : Source) (i : ℕ) (e : Option FedBy) (c : Curve) → input_by rate s i (linked os e) c ≡ placed_input (input_by rate s i (fed_from e) c)
   unfolding input_by
   input-linked rate s i e c = rw (read-linked s i e)
 
-  aux-linked : (rate : Float) (ss : Sources) (a : AuxSource) (e : Feeder) (c : Curve) → aux_by rate ss a (linked os e) c ≡ placed_aux (aux_by rate ss a (fed_from e) c)
-  aux-linked rate ss U.Nothing e c = refl
-  aux-linked rate ss (U.Source i) e c = ap X.With (input-linked rate (source_at ss i) i e c)
+  aux-linked : (rate : Float) (ss : Sources) (a : Option ℕ) (e : Option FedBy) (c : Curve) → aux_by rate ss a (linked os e) c ≡ placed_aux (aux_by rate ss a (fed_from e) c)
+  aux-linked rate ss None e c = refl
+  aux-linked rate ss (Some i) e c = ap Some (input-linked rate (source_at ss i) i e c)
 
   voice-read-placed : (r : Read) → voice_read (placed_read r) ≡ voice_read r
   voice-read-placed (D.Signal i v) = refl
@@ -125,21 +120,21 @@ module _ (os : List ℕ) where
   live-gain-placed G.Live = refl
   live-gain-placed (G.Fed e v) = refl
 
-  voice-aux-placed : (x : Aux) → voice_aux (placed_aux x) ≡ voice_aux x
-  voice-aux-placed X.Missing = refl
-  voice-aux-placed (X.With i) = voice-read-placed i.read
+  voice-aux-placed : (x : Option Input) → voice_aux (placed_aux x) ≡ voice_aux x
+  voice-aux-placed None = refl
+  voice-aux-placed (Some i) = voice-read-placed i.read
 
-  no-aux-placed : (x : Aux) → no_aux (placed_aux x) ≡ no_aux x
-  no-aux-placed X.Missing = refl
-  no-aux-placed (X.With i) = refl
+  no-aux-placed : (x : Option Input) → no_aux (placed_aux x) ≡ no_aux x
+  no-aux-placed None = refl
+  no-aux-placed (Some i) = refl
 
-  route-by-placed : (n : ℕ) (s : Slot) (dv : Bool) (i : Input) (x : Aux) (a o : Gain)
+  route-by-placed : (n : ℕ) (s : Slot) (dv : Bool) (i : Input) (x : Option Input) (a o : Gain)
       → route_by n s dv (placed_input i) (placed_aux x) (placed_gain a) (placed_gain o) ≡ placed_route (route_by n s dv i x a o)
   unfolding route_by
   route-by-placed n s dv i x a o =
       rw (voice-read-placed i.read, voice-aux-placed x, voice-gain-placed a, voice-gain-placed o, no-aux-placed x, live-gain-placed a, live-gain-placed o)
 
-  compiled-placed : (n : ℕ) (s : Slot) (dv : Bool) (i : Input) (x : Aux) (a o : Gain) {i' : Input} {x' : Aux} {a' o' : Gain}
+  compiled-placed : (n : ℕ) (s : Slot) (dv : Bool) (i : Input) (x : Option Input) (a o : Gain) {i' : Input} {x' : Option Input} {a' o' : Gain}
       → i' ≡ placed_input i → x' ≡ placed_aux x → a' ≡ placed_gain a → o' ≡ placed_gain o → route_by n s dv i' x' a' o' ≡ placed_route (route_by n s dv i x a o)
   compiled-placed n s dv i x a o p q r u = rw (p, q, r, u) (route-by-placed n s dv i x a o)
 
@@ -183,9 +178,9 @@ module _ (os : List ℕ) where
       sourced-in : sourced t f s j l (placed_route q) ≡ sourced t by_dest s j l q
       sourced-in = rw (read-in _ l q.source.read, source-in)
 
-      with-aux-in : (x : Aux) (p : Float) → with_aux t f s j l (placed_route q) (placed_aux x) p ≡ with_aux t by_dest s j l q x p
-      with-aux-in X.Missing p = refl
-      with-aux-in (X.With i) p = rw (input-in _ _ _ _ _ _ i)
+      with-aux-in : (x : Option Input) (p : Float) → with_aux t f s j l (placed_route q) (placed_aux x) p ≡ with_aux t by_dest s j l q x p
+      with-aux-in None p = refl
+      with-aux-in (Some i) p = rw (input-in _ _ _ _ _ _ i)
 
       gained-in : gained t f l (placed_route q) ≡ gained t by_dest l q
       gained-in = rw (gain-in l _ q.amount, gain-in l _ q.output)
@@ -201,9 +196,9 @@ module _ (os : List ℕ) where
     unfolding plain
     plain_in v q = rw (rowed-in q.source.read)
 
-    add-in : (s : Own) (j : ℕ) (q : Route) (a : Float) (n : Lane) → add_lane t f s j (placed_route q) a n ≡ add_lane t by_dest s j q a n
-    add-in s j q a (lane l) = rw (value-in s j l q)
-    add-in s j q a nowhere = refl
+    add-in : (s : Own) (j : ℕ) (q : Route) (a : Float) (n : Option ℕ) → add_lane t f s j (placed_route q) a n ≡ add_lane t by_dest s j q a n
+    add-in s j q a (Some l) = rw (value-in s j l q)
+    add-in s j q a None = refl
 
 module _ (w : Wiring) (os : List ℕ) where
   -- ---- what goes into a plan, and into its destination
@@ -314,9 +309,9 @@ module _ (w : Wiring) (os : List ℕ) where
     unfolding source_after
     source-placed j l h = rw (moves-at j l h, route-at j h, source-in os t f s j l (y.route j))
 
-    aux-slew-at : (j l : ℕ) → j < y.count → (a : Aux) → aux_slew t x f s j (x.route j) l (placed_aux os a) ≡ aux_slew t y g s j (y.route j) l a
-    aux-slew-at j l h X.Missing = refl
-    aux-slew-at j l h (X.With i) = rw (moves-at j l h, route-at j h, input-in os t f _ _ _ _ _ _ i)
+    aux-slew-at : (j l : ℕ) → j < y.count → (a : Option Input) → aux_slew t x f s j (x.route j) l (placed_aux os a) ≡ aux_slew t y g s j (y.route j) l a
+    aux-slew-at j l h None = refl
+    aux-slew-at j l h (Some i) = rw (moves-at j l h, route-at j h, input-in os t f _ _ _ _ _ _ i)
 
     pub aux-placed : (j l : ℕ) → j < y.count → aux_after t x f s j l ≡ aux_after t y (λ e. f (index_of e os)) s j l
     unfolding aux_after

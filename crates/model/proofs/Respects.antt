@@ -1,5 +1,6 @@
 -- WHAT A DESTINATION'S NEW NUMBER DEPENDS ON: of the rows only the lanes that its routes read, for every comparison of numbers that the operations respect; and
 -- of own and old numbers only those of its routes, and that of the lane. Assumes nothing.
+use Rattle.std.specs.Prelude.{Option, Some, None}
 use mathlib.Core.Path.{◌≡◌, refl, ap, ap₂}
 use mathlib.Core.Logic.{◌⊎◌, inl, inr}
 use mathlib.Core.Bool.{Bool, true, false, not, cond, ◌&&◌, ◌||◌}
@@ -16,17 +17,14 @@ use Rattle.slew.specs.Slew.{slew_step}
 use Rattle.state.specs.declared.Read.{Read}
 use Rattle.state.specs.declared.Read.TheVariants as D
 use Rattle.state.specs.declared.Slew.{Slew}
-use Rattle.state.specs.declared.Slew.TheVariants as L
 use Rattle.state.specs.declared.Input.{Input}
-use Rattle.state.specs.declared.Aux.{Aux}
-use Rattle.state.specs.declared.Aux.TheVariants as X
 use Rattle.state.specs.declared.Gain.{Gain}
 use Rattle.state.specs.declared.Gain.TheVariants as G
 use Rattle.state.specs.declared.Route.{Route}
 use Rattle.model.specs.Env.{Env, Rows, Own, live_amount_of, live_output_of}
 use Rattle.model.specs.Mix.{Mix}
 use Rattle.model.specs.Input.{fed_at, read_in, curved, slewed, input_in}
-use Rattle.model.specs.Lanes.{Lane, lane, nowhere, addend, in_span, snap_of}
+use Rattle.model.specs.Lanes.{addend, in_span, snap_of}
 use Rattle.model.specs.Routes.{free_slew}
 use Rattle.model.specs.RouteValue.{own_at, source_in, aux_in, raw_in, with_aux, gain_in, gained, route_value, is_zero, idle, plain}
 use Rattle.model.specs.Sums.{scaled_gain, plains, has_plain, add_lane, others, tick_sum}
@@ -69,13 +67,13 @@ module _ (Same : Float → Float → Type 0) (laws : Respected Same) where
 
   -- ---- two ways of giving rows and own numbers, from one route to the sum
   module _ (t : Env) (f g : Rows) (s s' : Own) where
-    with-aux : (j l : ℕ) (r : Route) (y : Aux) → ((i : Input) → y ≡ X.With i → Same (aux_in t f s j l r i) (aux_in t g s' j l r i)) → {p p' : Float} → Same p p'
+    with-aux : (j l : ℕ) (r : Route) (y : Option Input) → ((i : Input) → y ≡ Some i → Same (aux_in t f s j l r i) (aux_in t g s' j l r i)) → {p p' : Float} → Same p p'
         → Same (with_aux t f s j l r y p) (with_aux t g s' j l r y p')
-    with-aux j l r X.Missing h p = p
-    with-aux j l r (X.With i) h p = laws.times p (cond-respects r.aux_invert (laws.less (laws.refl _) (h i refl)) (h i refl))
+    with-aux j l r None h p = p
+    with-aux j l r (Some i) h p = laws.times p (cond-respects r.aux_invert (laws.less (laws.refl _) (h i refl)) (h i refl))
 
     value-by : (j l : ℕ) (r : Route) → Same (raw_in t f s j l r) (raw_in t g s' j l r) → Same (source_in t f s j l r) (source_in t g s' j l r)
-        → ((i : Input) → r.aux ≡ X.With i → Same (aux_in t f s j l r i) (aux_in t g s' j l r i)) → Same (gained t f l r) (gained t g l r)
+        → ((i : Input) → r.aux ≡ Some i → Same (aux_in t f s j l r i) (aux_in t g s' j l r i)) → Same (gained t f l r) (gained t g l r)
         → Same (route_value t f s j l r) (route_value t g s' j l r)
     unfolding route_value
     value-by j l r raw source aux gain =
@@ -98,9 +96,9 @@ module _ (Same : Float → Float → Type 0) (laws : Respected Same) where
           (laws.plus before (laws.times (raws k l h) (laws.refl _)))
           before
 
-      added-by : (j : ℕ) → j < x.count → {a a' : Float} → Same a a' → (w : Lane) → Same (add_lane t f s j (x.route j) a w) (add_lane t g s' j (x.route j) a' w)
-      added-by j h p (lane l) = laws.plus p (values j l h)
-      added-by j h p nowhere = p
+      added-by : (j : ℕ) → j < x.count → {a a' : Float} → Same a a' → (w : Option ℕ) → Same (add_lane t f s j (x.route j) a w) (add_lane t g s' j (x.route j) a' w)
+      added-by j h p (Some l) = laws.plus p (values j l h)
+      added-by j h p None = p
 
       others_by : (l : ℕ) {a a' : Float} → Same a a' → (k : ℕ) → k ≤ x.count → Same (others t f s x l a k) (others t g s' x l a' k)
       unfolding others
@@ -130,12 +128,12 @@ module _ (Same : Float → Float → Type 0) (laws : Respected Same) where
     unfolding source_after
     source-by x j l p q = cond-respects (not (free_slew (x.route j).source.slew) && moves_in t x (x.route j) l) p q
 
-    aux-slew-by : (x : Mix) (j l : ℕ) (r : Route) (y : Aux) → ((i : Input) → y ≡ X.With i → Same (aux_in t f s j l r i) (aux_in t g s' j l r i)) → Same (s j 1 l) (s' j 1 l)
+    aux-slew-by : (x : Mix) (j l : ℕ) (r : Route) (y : Option Input) → ((i : Input) → y ≡ Some i → Same (aux_in t f s j l r i) (aux_in t g s' j l r i)) → Same (s j 1 l) (s' j 1 l)
         → Same (aux_slew t x f s j r l y) (aux_slew t x g s' j r l y)
-    aux-slew-by x j l r X.Missing p q = q
-    aux-slew-by x j l r (X.With i) p q = cond-respects (not (free_slew i.slew) && moves_in t x r l) (p i refl) q
+    aux-slew-by x j l r None p q = q
+    aux-slew-by x j l r (Some i) p q = cond-respects (not (free_slew i.slew) && moves_in t x r l) (p i refl) q
 
-    aux-by : (x : Mix) (j l : ℕ) → ((i : Input) → (x.route j).aux ≡ X.With i → Same (aux_in t f s j l (x.route j) i) (aux_in t g s' j l (x.route j) i)) → Same (s j 1 l) (s' j 1 l)
+    aux-by : (x : Mix) (j l : ℕ) → ((i : Input) → (x.route j).aux ≡ Some i → Same (aux_in t f s j l (x.route j) i) (aux_in t g s' j l (x.route j) i)) → Same (s j 1 l) (s' j 1 l)
         → Same (aux_after t x f s j l) (aux_after t x g s' j l)
     unfolding aux_after
     aux-by x j l p q = aux-slew-by x j l (x.route j) (x.route j).aux p q
@@ -173,9 +171,9 @@ module _ (Same : Float → Float → Type 0) (laws : Respected Same) where
     curved-respects slot position true p = laws.lookup _ p
     curved-respects slot position false p = p
 
-    slewed-respects : (snap prev : Float) (w : Slew) {u u' : Float} → Same u u' → Same (slewed t snap prev w u) (slewed t snap prev w u')
-    slewed-respects snap prev L.Free p = p
-    slewed-respects snap prev (L.Limit up down) p = laws.slew _ _ snap prev p
+    slewed-respects : (snap prev : Float) (w : Option Slew) {u u' : Float} → Same u u' → Same (slewed t snap prev w u) (slewed t snap prev w u')
+    slewed-respects snap prev None p = p
+    slewed-respects snap prev (Some w) p = laws.slew _ _ snap prev p
 
     input-respects : (slot position : ℕ) (snap prev random : Float) (l : ℕ) (i : Input) → ReadAgree i.read
         → Same (input_in t f slot position snap prev random l i) (input_in t g slot position snap prev random l i)
@@ -194,7 +192,7 @@ module _ (Same : Float → Float → Type 0) (laws : Respected Same) where
       source-in-respects =
           input-respects (x.route j).slot 0 (snap_of t (x.route j).voice l) (own_at t s j 0 l) (own_at t s j 2 l) l (x.route j).source (λ e v p. agree j h e v (inl p))
 
-      aux-in-respects : (i : Input) → (x.route j).aux ≡ X.With i → Same (aux_in t f s j l (x.route j) i) (aux_in t g s j l (x.route j) i)
+      aux-in-respects : (i : Input) → (x.route j).aux ≡ Some i → Same (aux_in t f s j l (x.route j) i) (aux_in t g s j l (x.route j) i)
       aux-in-respects i q =
           input-respects (x.route j).slot 1 (snap_of t (x.route j).voice l) (own_at t s j 1 l) (own_at t s j 3 l) l i
           (λ e v p. agree j h e v (inr (inl (rw q p))))
@@ -261,7 +259,7 @@ module _ (t : Env) (f : Rows) (s s' : Own) (x : Mix) (agree : OwnAgree t s s' x)
   own-source-in j l h =
       ap₂ (λ (prev random : Float). input_in t f (x.route j).slot 0 (snap_of t (x.route j).voice l) prev random l (x.route j).source) (own-at j 0 l h (omega arith)) (own-at j 2 l h (omega arith))
 
-  own-aux-in : (j l : ℕ) → j < x.count → (i : Input) → (x.route j).aux ≡ X.With i → aux_in t f s j l (x.route j) i ≡ aux_in t f s' j l (x.route j) i
+  own-aux-in : (j l : ℕ) → j < x.count → (i : Input) → (x.route j).aux ≡ Some i → aux_in t f s j l (x.route j) i ≡ aux_in t f s' j l (x.route j) i
   own-aux-in j l h i q =
       ap₂ (λ (prev random : Float). input_in t f (x.route j).slot 1 (snap_of t (x.route j).voice l) prev random l i) (own-at j 1 l h (omega arith)) (own-at j 3 l h (omega arith))
 

@@ -16,8 +16,9 @@ use Rattle.state.specs.declared.Base.{Base}
 use Rattle.state.specs.declared.Base.TheVariants as B
 use Rattle.state.specs.declared.Feed.{Feed}
 use Rattle.state.specs.declared.Feed.TheVariants as F
-use Rattle.state.specs.declared.Feeder.{Feeder}
-use Rattle.state.specs.declared.Feeder.TheVariants as E
+use Rattle.std.specs.Prelude.{Option, None}
+use Rattle.state.specs.Fed.{by_dest}
+use Rattle.state.specs.declared.FedBy.{FedBy}
 use Rattle.state.specs.declared.Used.{Used}
 use Rattle.state.specs.declared.Wiring.{Wiring}
 use Rattle.state.specs.Registry.{known_source, source_at, dest_count, dest_at}
@@ -46,11 +47,11 @@ keep_append p (x ∷ l) m = go (which (p x)) (keep_append p l m)
     go (inl t) ih = rw (t, ih)
     go (inr t) ih = rw (t, ih)
 
-last-append : (t : Base) (found : Feeder) (us vs : List Used)
+last-append : (t : Base) (found : Option FedBy) (us vs : List Used)
     → last_feeder t found (us ++ vs) ≡ last_feeder t (last_feeder t found us) vs
 last-append t found [] vs = refl
 last-append t found (u ∷ us) vs =
-    last-append t (cond (same_thing u.feed t) (E.Dest u.dest u.voice) found) us vs
+    last-append t (cond (same_thing u.feed t) (by_dest u.dest u.voice) found) us vs
 
 -- ---- feeds
 
@@ -140,17 +141,17 @@ module _ (w : Wiring) where
   kept l = keep (named (candidates w)) l
 
   -- of the first n destinations
-  abbrev last_of : Base → ℕ → Feeder
-  last_of t n = last_feeder t E.Nothing (map used (kept (up_from 0 n)))
+  abbrev last_of : Base → ℕ → Option FedBy
+  last_of t n = last_feeder t None (map used (kept (up_from 0 n)))
 
   last_one : (t : Base) (n : ℕ) → last_of t (suc n) ≡ last_feeder t (last_of t n) (map used (kept (n ∷ [])))
   last_one t n =
-      ap (λ (l : List ℕ). last_feeder t E.Nothing (map used (kept l)))
+      ap (λ (l : List ℕ). last_feeder t None (map used (kept l)))
       (up_one 0 n ∙ ap (λ (m : ℕ). up_from 0 n ++ m ∷ []) (omega arith))
-      ∙ ap (λ (l : List ℕ). last_feeder t E.Nothing (map used l))
+      ∙ ap (λ (l : List ℕ). last_feeder t None (map used l))
       (keep_append (named (candidates w)) (up_from 0 n) (n ∷ []))
-      ∙ ap (last_feeder t E.Nothing) (map-append used (kept (up_from 0 n)) (kept (n ∷ [])))
-      ∙ last-append t E.Nothing (map used (kept (up_from 0 n))) (map used (kept (n ∷ [])))
+      ∙ ap (last_feeder t None) (map-append used (kept (up_from 0 n)) (kept (n ∷ [])))
+      ∙ last-append t None (map used (kept (up_from 0 n))) (map used (kept (n ∷ [])))
 
   -- a destination feeds the thing
   abbrev feeds : ℕ → Base → Bool

@@ -1,4 +1,5 @@
 -- What `said` reads is what a slot's route reads: lanes, fresh lanes, feeders' numbers, sources and inputs over curve and slew. Assumes nothing.
+use Rattle.std.specs.Prelude.{Some, None}
 use mathlib.Core.Path.{◌≡◌, refl, ap, ap₂, ◌∙◌}
 use mathlib.Core.Logic.{◌⊎◌, inl, inr}
 use mathlib.Core.Bool.{Bool, true, false, not, cond, ◌&&◌, ◌||◌}
@@ -21,9 +22,9 @@ use Rattle.state.specs.declared.Scope.{Scope}
 use Rattle.state.specs.declared.Scope.TheVariants as S
 use Rattle.state.specs.declared.Range.{Range}
 use Rattle.state.specs.declared.Range.TheVariants as R
-use Rattle.state.specs.declared.Slew.TheVariants as L
-use Rattle.state.specs.declared.Feeder.{Feeder}
-use Rattle.state.specs.declared.Feeder.TheVariants as E
+use Rattle.std.specs.Prelude.{Option, None}
+use Rattle.state.specs.Fed.{by_dest}
+use Rattle.state.specs.declared.FedBy.{FedBy}
 use Rattle.state.specs.declared.Wiring.{Wiring}
 use Rattle.state.specs.Registry.{source_at, dest_at}
 use Rattle.model.specs.Feeds.{is_voice, dest_voice}
@@ -101,9 +102,9 @@ instant_on t phase v o =
     }
 
 -- the feeder as the compiler has it
-abbrev pub as_feeder : Wiring → Feeding → Feeder
-as_feeder w unfed = E.Nothing
-as_feeder w (fed_by e) = E.Dest e (dest_voice w e)
+abbrev pub as_feeder : Wiring → Feeding → Option FedBy
+as_feeder w unfed = None
+as_feeder w (fed_by e) = by_dest e (dest_voice w e)
 
 module _ (w : Wiring) (t : Env) (phase : ℕ) (v : Values) (o : Opens t) where
   pub group-same : (l : ℕ) → group_active w (instant_on t phase v o) l ≡ in_group t l
@@ -201,7 +202,7 @@ module _ (w : Wiring) (t : Env) (phase : ℕ) (v : Values) (o : Opens t) where
           by false = refl
 
       -- a slew, where there is one
-      slewed-by : (b : Bool) (up down snap prev u : Float) → slewed t snap prev (cond b (L.Limit up down) L.Free) u
+      slewed-by : (b : Bool) (up down snap prev u : Float) → slewed t snap prev (cond b (Some (record { up = up; down = down })) None) u
           ≡ cond b (slew_step (reach up t.steps) (reach down t.steps) snap prev u) u
       slewed-by true up down snap prev u = refl
       slewed-by false up down snap prev u = refl

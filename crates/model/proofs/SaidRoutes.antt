@@ -1,4 +1,5 @@
 -- A slot's route has the value that `said` gives its slot, and is plain and idle where the slot is. Assumes nothing.
+use Rattle.std.specs.Prelude.{Some, None}
 use mathlib.Core.Path.{◌≡◌, refl, sym, ap, ap₂, ◌∙◌}
 use mathlib.Core.Bool.{Bool, true, false, not, cond, ◌&&◌}
 use Prim.Native.Nat.{ℕ, ◌+◌}
@@ -13,12 +14,9 @@ use Rattle.state.specs.declared.Kind.TheVariants as K
 use Rattle.state.specs.declared.Scope.{Scope}
 use Rattle.state.specs.declared.Scope.TheVariants as S
 use Rattle.state.specs.declared.Base.TheVariants as B
-use Rattle.state.specs.declared.Pick.{Pick}
+use Rattle.std.specs.Prelude.{Option, None, Some}
+use Rattle.state.specs.declared.FedBy.{FedBy}
 use Rattle.state.specs.declared.Slot.{Slot}
-use Rattle.state.specs.declared.Slew.TheVariants as L
-use Rattle.state.specs.declared.Feeder.{Feeder}
-use Rattle.state.specs.declared.AuxSource.{AuxSource}
-use Rattle.state.specs.declared.AuxSource.TheVariants as U
 use Rattle.state.specs.declared.Candidate.{Candidate}
 use Rattle.state.specs.declared.Route.{Route}
 use Rattle.state.specs.declared.Wiring.{Wiring}
@@ -48,7 +46,7 @@ straight-same : (c : Curve) → not (not (is_linear c)) ≡ straight c
 straight-same C.Linear = refl
 straight-same (C.Table rise fall) = refl
 
-free-by : (b : Bool) (up down : Float) → free_slew (cond b (L.Limit up down) L.Free) ≡ not b
+free-by : (b : Bool) (up down : Float) → free_slew (cond b (Some (record { up = up; down = down })) None) ≡ not b
 free-by true up down = refl
 free-by false up down = refl
 
@@ -65,10 +63,10 @@ live_same : (w : Wiring) (f : Feeding) → live_gain (fed_from (as_feeder w f)) 
 live_same w unfed = refl
 live_same w (fed_by e) = refl
 
-none-same : (rate : Float) (w : Wiring) (a : AuxSource) (g : Feeder) (c : Curve)
+none-same : (rate : Float) (w : Wiring) (a : Option ℕ) (g : Option FedBy) (c : Curve)
     → no_aux (aux_by rate w.sources a (fed_from g) c) ≡ picks_none w (pick_of a)
-none-same rate w U.Nothing g c = refl
-none-same rate w (U.Source i) g c = refl
+none-same rate w None g c = refl
+none-same rate w (Some i) g c = refl
 
 -- ---- what a slot's source comes to, by its parts: as read and scaled, or its input, both ways where it is bipolar
 
@@ -181,14 +179,14 @@ module _ (w : Wiring) (fed : FedAs w) (t : Env) (phase : ℕ) (v : Values) (o : 
         (input-is 0 l c.source (λ (z : Slot). z.source_curve))
         ∙ sym (ap (source_said w x proposed d n l (slot_n w n).source_curve) s.source)
 
-    aux-term : (l : ℕ) (a : AuxSource) (u : Float)
+    aux-term : (l : ℕ) (a : Option ℕ) (u : Float)
         → with_aux t (seen v to d) (owns_of w v d) j l r
         (aux_by w.config.sample_rate w.sources a (fed_from (feeder_of w (aux_thing a)))
         (slot_of w c).aux_curve) u
         ≡ times_aux w x proposed d n l (pick_of a) u
     unfolding slot_route route_by
-    aux-term l U.Nothing u = refl
-    aux-term l (U.Source i) u =
+    aux-term l None u = refl
+    aux-term l (Some i) u =
         ap₂ (λ (b : Bool) (a : Float). times u (cond b (less one32 a) a))
         (ap (λ (z : Slot). z.aux_invert) (sym s.slot))
         (input-is 1 l i (λ (z : Slot). z.aux_curve))
@@ -199,9 +197,9 @@ module _ (w : Wiring) (fed : FedAs w) (t : Env) (phase : ℕ) (v : Values) (o : 
     unfolding slot_route route_by
     gains-same l =
         ap₂ times
-        (ap (λ (g : Feeder). gain_in t (seen v to d) l (live_amount_of t n) (fed_from g)) (fed.amount n)
+        (ap (λ (g : Option FedBy). gain_in t (seen v to d) l (live_amount_of t n) (fed_from g)) (fed.amount n)
         ∙ gain-same w fed t phase v o to d at (amount_feeder w n) l (live_amount_of t n))
-        (ap (λ (g : Feeder). gain_in t (seen v to d) l (live_output_of t n) (fed_from g)) (fed.output n)
+        (ap (λ (g : Option FedBy). gain_in t (seen v to d) l (live_output_of t n) (fed_from g)) (fed.output n)
         ∙ gain-same w fed t phase v o to d at (output_feeder w n) l (live_output_of t n))
 
     -- THE TERM OF A SLOT
@@ -212,23 +210,23 @@ module _ (w : Wiring) (fed : FedAs w) (t : Env) (phase : ℕ) (v : Values) (o : 
         ap₂ times
         (ap (with_aux t (seen v to d) (owns_of w v d) j l r r.aux) (source-term l)
         ∙ aux-term l c.aux u
-        ∙ sym (ap (λ (p : Pick). times_aux w x proposed d n l p u) s.aux))
+        ∙ sym (ap (λ (p : Option ℕ). times_aux w x proposed d n l p u) s.aux))
         (gains-same l)
 
     -- ---- plain, and idle
 
     live-amount : live_gain r.amount ≡ is_unfed (amount_feeder w n)
     unfolding slot_route route_by
-    live-amount = ap (λ (g : Feeder). live_gain (fed_from g)) (fed.amount n) ∙ live_same w (amount_feeder w n)
+    live-amount = ap (λ (g : Option FedBy). live_gain (fed_from g)) (fed.amount n) ∙ live_same w (amount_feeder w n)
 
     live-output : live_gain r.output ≡ is_unfed (output_feeder w n)
     unfolding slot_route route_by
-    live-output = ap (λ (g : Feeder). live_gain (fed_from g)) (fed.output n) ∙ live_same w (output_feeder w n)
+    live-output = ap (λ (g : Option FedBy). live_gain (fed_from g)) (fed.output n) ∙ live_same w (output_feeder w n)
 
     row_same : whole_row t r.source.read ≡ pick_row w x (slot_n w n).source
     unfolding slot_route route_by input_by
     row_same =
-        ap (λ (g : Feeder). whole_row t (read_by (source_at w.sources c.source) c.source (fed_from g)))
+        ap (λ (g : Option FedBy). whole_row t (read_by (source_at w.sources c.source) c.source (fed_from g)))
         (fed.source c.source)
         ∙ row_by (source_feeder w c.source) c.source
         ∙ sym (ap (pick_row w x) s.source)

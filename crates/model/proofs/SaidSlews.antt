@@ -6,12 +6,10 @@ use lib.Dec.{ltb}
 use lib.ListN.{length}
 use lib.Ieee.{Float, nan}
 use borrow.Author.Tests.{lt-ltb}
+use Rattle.std.specs.Prelude.{Option, Some, None}
 use Rattle.config.specs.Sizes.{slots, lanes}
-use Rattle.voice.specs.declared.Newest.{Newest}
-use Rattle.voice.specs.declared.Newest.TheVariants as N
 use Rattle.curve_table.specs.declared.Curve.{Curve}
-use Rattle.state.specs.declared.AuxSource.{AuxSource}
-use Rattle.state.specs.declared.AuxSource.TheVariants as U
+use Rattle.std.specs.Prelude.{Option, None, Some}
 use Rattle.state.specs.declared.Candidate.{Candidate}
 use Rattle.state.specs.declared.Route.{Route}
 use Rattle.state.specs.declared.Slot.{Slot}
@@ -21,7 +19,7 @@ use Rattle.model.specs.Feeds.{dest_voice, feeder_of, aux_thing}
 use Rattle.model.specs.Routes.{free_slew, slew_for, input_by, aux_by, route_by}
 use Rattle.model.specs.Env.{Env, Rows, Own, is_fresh}
 use Rattle.model.specs.Mix.{Mix}
-use Rattle.model.specs.Lanes.{newest_lane, same_group, worked}
+use Rattle.model.specs.Lanes.{same_group, worked}
 use Rattle.model.specs.Slews.{moves_in, aux_slew, source_after, aux_after}
 use Rattle.model.specs.Tick.{kept, starting, held_sum, new_to, new_from}
 use Rattle.model.specs.Said.{Instant, slews, slot_n, sends, per_voice, group_active, starts_in}
@@ -91,9 +89,9 @@ module _ (w : Wiring) (slotted : length w.matrix.slot ≡ slots) (t : Env) (phas
   fed : FedAs w
   fed = fed-as w slotted
 
-  newest-same : (a : Newest) (l : ℕ) → same_group l (newest_lane a) ≡ newest_group w x proposed d l a
-  newest-same N.Nobody l = refl
-  newest-same (N.Voice u) l = refl
+  newest-same : (a : Option ℕ) (l : ℕ) → same_group l a ≡ newest_group w x proposed d l a
+  newest-same None l = refl
+  newest-same (Some u) l = refl
 
   worked-by : (a b : Bool) (l : ℕ) → worked t a b l
       ≡ cond b (cond a (group_active w x l) (newest_group w x proposed d l t.voices.newest)) (ltb l lanes)
@@ -148,13 +146,13 @@ module _ (w : Wiring) (slotted : length w.matrix.slot ≡ slots) (t : Env) (phas
         ∙ ap (λ (i : ℕ). slew_said w x proposed d i 0 l (slot_n w i).source_curve (slot_n w i).source)
         (sent-slot w d slotted n h b)
 
-    aux-by : (a : AuxSource)
+    aux-by : (a : Option ℕ)
         → aux_slew t m f s j r l
         (aux_by w.config.sample_rate w.sources a (fed_from (feeder_of w (aux_thing a))) (slot_of w c).aux_curve)
         ≡ slew_said w x proposed d c.slot 1 l (slot_n w c.slot).aux_curve (pick_of a)
     unfolding slot_route route_by input_by
-    aux-by U.Nothing = sym (lane-in (v.own c.slot 1) l k)
-    aux-by (U.Source i) =
+    aux-by None = sym (lane-in (v.own c.slot 1) l k)
+    aux-by (Some i) =
         cond_same (ap₂ ◌&&◌ (slews-same (λ (z : Slot). z.aux_curve)) moves-same)
         (input-is w fed t phase v o to d at j stands 1 l i (λ (z : Slot). z.aux_curve))
         (sym (lane-in (v.own c.slot 1) l k))

@@ -13,10 +13,8 @@ use Rattle.config.specs.Sizes.{slots}
 use Rattle.list.proofs.Elements.{get_or-inside}
 use Rattle.feed.proofs.Tests.{which}
 use Rattle.slots.specs.Slots.{empty_slot}
-use Rattle.state.specs.declared.Pick.{Pick}
-use Rattle.state.specs.declared.Pick.TheVariants as P
-use Rattle.state.specs.declared.Aim.{Aim}
-use Rattle.state.specs.declared.Aim.TheVariants as A
+use Rattle.std.specs.Prelude.{Option, None, Some}
+use Rattle.state.specs.declared.Target.{Target}
 use Rattle.state.specs.declared.Slot.{Slot}
 use Rattle.state.specs.declared.Reason.TheVariants.{UnknownSource, UnknownAux, UnknownDestination}
 use Rattle.state.specs.declared.Candidate.{Candidate}
@@ -112,17 +110,17 @@ passing-back p j (suc k) h = go (which (p k)) (λ z. passing-back p j k z)
 
 -- ---- a slot's candidate
 
-abbrev source_of : Pick → ℕ
-source_of P.Nothing = 0
-source_of (P.Source i) = i
+abbrev source_of : Option ℕ → ℕ
+source_of None = 0
+source_of (Some i) = i
 
 -- of slot n, into destination d
 abbrev candidate_of : ℕ → ℕ → Slot → Candidate
 candidate_of d n s = record { slot = n; source = source_of s.source; aux = aux_of s.aux; dest = d }
 
-aux-again : (a : Pick) → a ≡ pick_of (aux_of a)
-aux-again P.Nothing = refl
-aux-again (P.Source i) = refl
+aux-again : (a : Option ℕ) → a ≡ pick_of (aux_of a)
+aux-again None = refl
+aux-again (Some i) = refl
 
 named-into : (d : ℕ) (cs : List Candidate) → named cs d ≡ some (length (candidates_into d cs))
 named-into d [] = refl
@@ -134,7 +132,7 @@ named-into d (c ∷ cs) = go (which (eqb c.dest d)) (named-into d cs)
     go (inr h) e = rw h e
 
 module _ (w : Wiring) (d : ℕ) where
-  abbrev sends_by : Bool → Pick → Pick → Aim → Bool
+  abbrev sends_by : Bool → Option ℕ → Option ℕ → Option Target → Bool
   sends_by bypass aux source aim =
       picks_known w source && (aims_at w aim d && (not bypass && picks_no_unknown w aux))
 
@@ -143,11 +141,11 @@ module _ (w : Wiring) (d : ℕ) where
 
   -- ---- what the compiler takes of one slot
 
-  aux-known : (a : Pick) → aux_known w.sources a ≡ picks_no_unknown w a
-  aux-known P.Nothing = refl
-  aux-known (P.Source i) = refl
+  aux-known : (a : Option ℕ) → aux_known w.sources a ≡ picks_no_unknown w a
+  aux-known None = refl
+  aux-known (Some i) = refl
 
-  looked-into : (n i : ℕ) (aux : Pick) (p : ℕ) (cs : List Candidate)
+  looked-into : (n i : ℕ) (aux : Option ℕ) (p : ℕ) (cs : List Candidate)
       → candidates_into d (with_candidate (looked w.sources w.dests n i aux p) cs)
       ≡ cond (known_source w.sources i && ((eqb p d && ltb d (dest_count w.dests)) && picks_no_unknown w aux))
       (record { slot = n; source = i; aux = aux_of aux; dest = d } ∷ candidates_into d cs)
@@ -174,16 +172,16 @@ module _ (w : Wiring) (d : ℕ) where
       go true true false e (inl s) =
           let q : p ≡ d = eqb-true p d s in let b : ltb d (dest_count w.dests) ≡ false = rw q at e in rw (s, b)
 
-  by-into : (n : ℕ) (bypass : Bool) (aux source : Pick) (aim : Aim) (cs : List Candidate)
+  by-into : (n : ℕ) (bypass : Bool) (aux source : Option ℕ) (aim : Option Target) (cs : List Candidate)
       → candidates_into d (with_candidate (verdict_by w.sources w.dests n bypass aux source aim) cs)
       ≡ cond (sends_by bypass aux source aim)
       (record { slot = n; source = source_of source; aux = aux_of aux; dest = d } ∷ candidates_into d cs)
       (candidates_into d cs)
-  by-into n b aux P.Nothing aim cs = refl
-  by-into n b aux (P.Source i) A.Nothing cs = rw (and_none (known_source w.sources i))
-  by-into n true aux (P.Source i) (A.At t) cs =
-      rw (and_none (aims_at w (A.At t) d), and_none (known_source w.sources i))
-  by-into n false aux (P.Source i) (A.At t) cs = looked-into n i aux (dest_place w.dests t) cs
+  by-into n b aux None aim cs = refl
+  by-into n b aux (Some i) None cs = rw (and_none (known_source w.sources i))
+  by-into n true aux (Some i) (Some t) cs =
+      rw (and_none (aims_at w (Some t) d), and_none (known_source w.sources i))
+  by-into n false aux (Some i) (Some t) cs = looked-into n i aux (dest_place w.dests t) cs
 
   -- A SLOT IS TAKEN FOR THE DESTINATION WHERE IT SENDS TO IT
   verdict-into : (n : ℕ) (s : Slot) (cs : List Candidate)
@@ -192,12 +190,12 @@ module _ (w : Wiring) (d : ℕ) where
   unfolding verdict
   verdict-into n s cs = by-into n s.bypass s.aux s.source s.destination cs
 
-  sends-source : (s : Slot) → sends_as s ≡ true → s.source ≡ P.Source (source_of s.source)
+  sends-source : (s : Slot) → sends_as s ≡ true → s.source ≡ Some (source_of s.source)
   sends-source s h = go s.source h
     where
-      go : (p : Pick) → sends_by s.bypass s.aux p s.destination ≡ true → p ≡ P.Source (source_of p)
-      go P.Nothing e = cc
-      go (P.Source i) e = refl
+      go : (p : Option ℕ) → sends_by s.bypass s.aux p s.destination ≡ true → p ≡ Some (source_of p)
+      go None e = cc
+      go (Some i) e = refl
 
   -- ---- of the slots from number k on
 

@@ -8,11 +8,10 @@ use borrow.Author.Tests.{lt-ltb}
 use lib.Dec.{ltb}
 use lib.ListN.{length}
 use lib.Ieee.{Float, eq, nan}
+use Rattle.std.specs.Prelude.{Option, Some, None}
 use Rattle.config.specs.Sizes.{slots}
 use Rattle.number.specs.Number.{zero32, plus, times, hold}
 use Rattle.feed.proofs.Tests.{which}
-use Rattle.voice.specs.declared.Newest.{Newest}
-use Rattle.voice.specs.declared.Newest.TheVariants as N
 use Rattle.state.specs.declared.Base.{Base}
 use Rattle.state.specs.declared.Base.TheVariants as B
 use Rattle.state.specs.declared.Feed.{Feed}
@@ -24,7 +23,7 @@ use Rattle.model.specs.Feeds.{held_global, counted, counted_feed, dest_voice}
 use Rattle.model.specs.Env.{Env, Rows, Own, gain_of, base_of}
 use Rattle.model.specs.Mix.{Mix}
 use Rattle.model.specs.Layout.{plan_width}
-use Rattle.model.specs.Lanes.{in_group, lane_if, newest_lane, addend}
+use Rattle.model.specs.Lanes.{in_group, lane_if, addend}
 use Rattle.model.specs.RouteValue.{raw_in, route_value, is_zero, idle, plain}
 use Rattle.model.specs.Sums.{base_in, offsets, some_plain, scaled_gain, plains, add_lane, others, begun, tick_sum}
 use Rattle.model.specs.Tick.{new_to}
@@ -135,9 +134,9 @@ module _ (w : Wiring) (slotted : length w.matrix.slot ≡ slots) (t : Env) (phas
     lane-if a true k = ap (plus a) (term-at k)
     lane-if a false k = refl
 
-    newest-if : (a : Float) (o : Newest) → add_newest w x proposed d n a o ≡ add_lane t f s (j n) (r n) a (newest_lane o)
-    newest-if a N.Nobody = refl
-    newest-if a (N.Voice k) = ap (plus a) (term-at k)
+    newest-if : (a : Float) (o : Option ℕ) → add_newest w x proposed d n a o ≡ add_lane t f s (j n) (r n) a o
+    newest-if a None = refl
+    newest-if a (Some k) = ap (plus a) (term-at k)
 
     lane-by : (l : ℕ) (a : Float) (mine its : Bool)
         → cond mine (cond (in_group t l) (plus a (term w x proposed d n (cond its l 0))) a)

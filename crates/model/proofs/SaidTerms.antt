@@ -13,11 +13,8 @@ use Rattle.state.specs.declared.Scope.{Scope}
 use Rattle.state.specs.declared.Polarity.{Polarity}
 use Rattle.state.specs.declared.Polarity.TheVariants as Q
 use Rattle.state.specs.declared.Base.TheVariants as B
-use Rattle.state.specs.declared.Pick.{Pick}
-use Rattle.state.specs.declared.Pick.TheVariants as P
-use Rattle.state.specs.declared.Feeder.{Feeder}
-use Rattle.state.specs.declared.AuxSource.{AuxSource}
-use Rattle.state.specs.declared.AuxSource.TheVariants as U
+use Rattle.std.specs.Prelude.{Option, None, Some}
+use Rattle.state.specs.declared.FedBy.{FedBy}
 use Rattle.state.specs.declared.Candidate.{Candidate}
 use Rattle.state.specs.declared.Wiring.{Wiring}
 use Rattle.state.specs.Registry.{source_at, dest_at}
@@ -39,13 +36,13 @@ use Rattle.model.proofs.SaidInputs.{Opens, instant_on, curve-same, slew-same}
 
 -- ---- what a candidate says of its slot, and what the compiler finds of feeders
 
-abbrev pub pick_of : AuxSource → Pick
-pick_of U.Nothing = P.Nothing
-pick_of (U.Source i) = P.Source i
+abbrev pub pick_of : Option ℕ → Option ℕ
+pick_of None = None
+pick_of (Some i) = Some i
 
 pub record Stands (w : Wiring) (c : Candidate) : Type 0 where
   pub slot : slot_n w c.slot ≡ slot_of w c
-  pub source : (slot_n w c.slot).source ≡ P.Source c.source
+  pub source : (slot_n w c.slot).source ≡ Some c.source
   pub aux : (slot_n w c.slot).aux ≡ pick_of c.aux
 
 pub record FedAs (w : Wiring) : Type 0 where
@@ -96,15 +93,15 @@ module _ (w : Wiring) where
   gain-voice (fed_by e) = sym (voice-same (dest_at w.dests e).scope)
 
   module _ (fed : FedAs w) where
-    pub source-voice : (i : ℕ) → voice_read (read_by (source_at w.sources i) i (fed_from (feeder_of w (B.Held i)))) ≡ pick_voice w (P.Source i)
+    pub source-voice : (i : ℕ) → voice_read (read_by (source_at w.sources i) i (fed_from (feeder_of w (B.Held i)))) ≡ pick_voice w (Some i)
     source-voice i =
-        ap (λ (g : Feeder). voice_read (read_by (source_at w.sources i) i (fed_from g))) (fed.source i) ∙ read-voice (source_feeder w i) i
+        ap (λ (g : Option FedBy). voice_read (read_by (source_at w.sources i) i (fed_from g))) (fed.source i) ∙ read-voice (source_feeder w i) i
 
-    aux-voice : (a : AuxSource) (c : Curve)
+    aux-voice : (a : Option ℕ) (c : Curve)
         → voice_aux (aux_by w.config.sample_rate w.sources a (fed_from (feeder_of w (aux_thing a))) c) ≡ pick_voice w (pick_of a)
     unfolding input_by
-    aux-voice U.Nothing c = refl
-    aux-voice (U.Source i) c = source-voice i
+    aux-voice None c = refl
+    aux-voice (Some i) c = source-voice i
 
     -- A SLOT'S SCOPE
     pub voice-slot : (c : Candidate) → Stands w c → (slot_route w c).voice ≡ slot_voice w c.slot
@@ -112,8 +109,8 @@ module _ (w : Wiring) where
     voice-slot c s =
         ap₂ ◌||◌ (source-voice c.source ∙ sym (ap (pick_voice w) s.source))
         (ap₂ ◌||◌ (aux-voice c.aux (slot_of w c).aux_curve ∙ sym (ap (pick_voice w) s.aux))
-        (ap₂ ◌||◌ (ap (λ (g : Feeder). voice_gain (fed_from g)) (fed.amount c.slot) ∙ gain-voice (amount_feeder w c.slot))
-        (ap (λ (g : Feeder). voice_gain (fed_from g)) (fed.output c.slot) ∙ gain-voice (output_feeder w c.slot))))
+        (ap₂ ◌||◌ (ap (λ (g : Option FedBy). voice_gain (fed_from g)) (fed.amount c.slot) ∙ gain-voice (amount_feeder w c.slot))
+        (ap (λ (g : Option FedBy). voice_gain (fed_from g)) (fed.output c.slot) ∙ gain-voice (output_feeder w c.slot))))
 
     module _ (t : Env) (phase : ℕ) (v : Values) (o : Opens t) (to : Rows) (d : ℕ) (at : AtTick t phase) where
       abbrev proposed : Rows
@@ -129,7 +126,7 @@ module _ (w : Wiring) where
           ≡ source_read w (instant_on t phase v o) proposed d n p l i
       unfolding source_read
       source-same n p l i =
-          ap (λ (g : Feeder). read_in t (seen v to d) (laned t.stride (v.own n (2 + p)) l) l (read_by (source_at w.sources i) i (fed_from g))) (fed.source i)
+          ap (λ (g : Option FedBy). read_in t (seen v to d) (laned t.stride (v.own n (2 + p)) l) l (read_by (source_at w.sources i) i (fed_from g))) (fed.source i)
           ∙ read_same w t phase v o to d (source_feeder w i) n p l i
 
       -- AN INPUT OVER ITS CURVE AND ITS SLEW

@@ -19,8 +19,7 @@ use Rattle.state.specs.declared.Rate.TheVariants as T
 use Rattle.state.specs.declared.Feed.{Feed}
 use Rattle.state.specs.declared.Feed.TheVariants as F
 use Rattle.state.specs.declared.Target.TheVariants as G
-use Rattle.state.specs.declared.Pick.TheVariants as P
-use Rattle.state.specs.declared.Aim.TheVariants as M
+use Rattle.std.specs.Prelude.{None, Some}
 use Rattle.state.specs.declared.Polarity.{Polarity}
 use Rattle.state.specs.declared.Polarity.TheVariants as Q
 use Rattle.state.specs.declared.NoteCurve.TheVariants as N
@@ -91,12 +90,12 @@ dest n f = record { target = G.Param n; scope = S.Global; rate = T.Control; min 
 abbrev pub slot : ℕ → ℕ → Float → Polarity → Slot
 slot i n amount p =
     record {
-      source = P.Source i;
+      source = Some i;
       source_curve = C.Linear;
       amount = amount;
       polarity = p;
-      destination = M.At (G.Param n);
-      aux = P.Nothing;
+      destination = Some (G.Param n);
+      aux = None;
       aux_invert = false;
       aux_curve = C.Linear;
       output = one32;

@@ -11,7 +11,6 @@ use Rattle.number.specs.Number.{zero32, one32}
 use Rattle.state.specs.declared.NoteCurve.TheVariants as N
 use Rattle.state.specs.declared.Matrix.{Matrix}
 use Rattle.state.specs.declared.Program.{Program}
-use Rattle.state.specs.declared.Compiled.{Compiled}
 use Rattle.state.specs.declared.Wiring.{Wiring}
 use Rattle.state_filled.specs.Filled.{no_plan, no_route, no_skip}
 use Rattle.slots.specs.Slots.{all_finite}
@@ -49,6 +48,11 @@ empty_of c =
       skips = 0;
       skipped = replicate slots no_skip;
     }
+
+-- the answer of a call that makes a program: the row by which it is refused, 0 where it is accepted, and the program
+pub record Compiled : Type 0 where
+  pub code : ℕ
+  pub program : Program
 
 -- a refusal holds the empty program for rate 1, 0 frames, 0 voices
 abbrev pub answered_by : ℕ → Program → Compiled

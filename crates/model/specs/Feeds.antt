@@ -20,12 +20,11 @@ use Rattle.state.specs.declared.Sources.{Sources}
 use Rattle.state.specs.declared.Dest.{Dest}
 use Rattle.state.specs.declared.Destinations.{Destinations}
 use Rattle.state.specs.declared.Wiring.{Wiring}
-use Rattle.state.specs.declared.AuxSource.{AuxSource}
-use Rattle.state.specs.declared.AuxSource.TheVariants as X
+use Rattle.std.specs.Prelude.{Option, None, Some}
+use Rattle.state.specs.Fed.{by_dest}
+use Rattle.state.specs.declared.FedBy.{FedBy}
 use Rattle.state.specs.declared.Candidate.{Candidate}
 use Rattle.state.specs.declared.Used.{Used}
-use Rattle.state.specs.declared.Feeder.{Feeder}
-use Rattle.state.specs.declared.Feeder.TheVariants as E
 use Rattle.state.specs.declared.Reader.{Reader}
 use Rattle.state.specs.Registry.{known_source, source_at, dest_count, dest_at}
 use Rattle.model.specs.Wiring.{candidates}
@@ -109,9 +108,9 @@ is_audio_kind K.RandomPerRoute = false
 is_audio_kind K.VoiceLoad = false
 is_audio_kind K.Constant = false
 
-abbrev pub audio_aux : Sources → AuxSource → Bool
-audio_aux ss X.Nothing = false
-audio_aux ss (X.Source i) = is_audio_kind (source_at ss i).kind
+abbrev pub audio_aux : Sources → Option ℕ → Bool
+audio_aux ss None = false
+audio_aux ss (Some i) = is_audio_kind (source_at ss i).kind
 
 -- some candidate of d has an Audio source or aux
 unfoldable pub hears_audio : Sources → List Candidate → ℕ → Bool
@@ -159,27 +158,27 @@ unfolding candidates hears_audio
 used_dests w = used_in w.sources w.dests (candidates w)
 
 -- the one found so far, unless a later one of the list feeds the thing
-abbrev pub last_feeder : Base → Feeder → List Used → Feeder
+abbrev pub last_feeder : Base → Option FedBy → List Used → Option FedBy
 last_feeder t found [] = found
 last_feeder t found (u ∷ us) =
-    let this = cond (same_thing u.feed t) (E.Dest u.dest u.voice) found in last_feeder t this us
+    let this = cond (same_thing u.feed t) (by_dest u.dest u.voice) found in last_feeder t this us
 
 -- the last of the list that feeds the thing
-abbrev pub feeder_in : List Used → Base → Feeder
-feeder_in us t = last_feeder t E.Nothing us
+abbrev pub feeder_in : List Used → Base → Option FedBy
+feeder_in us t = last_feeder t None us
 
-unfoldable pub feeder_of : Wiring → Base → Feeder
+unfoldable pub feeder_of : Wiring → Base → Option FedBy
 unfolding used_dests
 feeder_of w t = feeder_in (used_dests w) t
 
 -- ---- what a route may be fed by: its source, its aux, its amount, its output
 
-abbrev pub aux_thing : AuxSource → Base
-aux_thing X.Nothing = B.Set
-aux_thing (X.Source i) = B.Held i
+abbrev pub aux_thing : Option ℕ → Base
+aux_thing None = B.Set
+aux_thing (Some i) = B.Held i
 
 -- a candidate, with the feeders that it reads
-abbrev pub reader_by : (Base → Feeder) → Candidate → Reader
+abbrev pub reader_by : (Base → Option FedBy) → Candidate → Reader
 reader_by feeder c =
     record {
       candidate = c;
@@ -193,9 +192,9 @@ unfoldable pub readers_of : Wiring → List Reader
 unfolding candidates feeder_of
 readers_of w = map (reader_by (feeder_of w)) (candidates w)
 
-abbrev pub is_it : ℕ → Feeder → Bool
-is_it a E.Nothing = false
-is_it a (E.Dest d v) = eqb a d
+abbrev pub is_it : ℕ → Option FedBy → Bool
+is_it a None = false
+is_it a (Some f) = eqb a f.dest
 
 -- a is one of the four
 abbrev pub is_among : ℕ → Reader → Bool

@@ -1,5 +1,5 @@
 -- One input of a route, in one lane (engine.rs 1401-1478; document 01, Chunk and value). Definitions only.
-use Rattle.std.specs.Prelude.{Bool, true, false, cond, ℕ, ◌+◌, ◌*◌, Float}
+use Rattle.std.specs.Prelude.{Bool, true, false, cond, ℕ, ◌+◌, ◌*◌, Float, Option, Some, None}
 use Rattle.list.specs.Rows.{row_at}
 use Rattle.number.specs.Number.{one32, half32, plus, times}
 use Rattle.curve_table.specs.Table.{points, lookup_of}
@@ -7,7 +7,6 @@ use Rattle.slew.specs.Slew.{reach, slew_step}
 use Rattle.state.specs.declared.Read.{Read}
 use Rattle.state.specs.declared.Read.TheVariants as D
 use Rattle.state.specs.declared.Slew.{Slew}
-use Rattle.state.specs.declared.Slew.TheVariants as L
 use Rattle.state.specs.declared.Input.{Input}
 use Rattle.slots_tables.specs.Tables.{slot_place}
 use Rattle.model.specs.Counts.{at}
@@ -40,9 +39,9 @@ curved t slot position true u = lookup_of (row_at t.tables points (slot_place sl
 curved t slot position false u = u
 
 -- from prev, where there is a slew: at most its rates times the steps, and to the input where snap is 1
-abbrev pub slewed : Env → Float → Float → Slew → Float → Float
-slewed t snap prev L.Free u = u
-slewed t snap prev (L.Limit up down) u = slew_step (reach up t.steps) (reach down t.steps) snap prev u
+abbrev pub slewed : Env → Float → Float → Option Slew → Float → Float
+slewed t snap prev None u = u
+slewed t snap prev (Some w) u = slew_step (reach w.up t.steps) (reach w.down t.steps) snap prev u
 
 -- THE INPUT's value, which is also its slew afterwards
 unfoldable pub input_in : Env → Rows → ℕ → ℕ → Float → Float → Float → ℕ → Input → Float

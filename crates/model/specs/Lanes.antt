@@ -1,11 +1,10 @@
 -- Which lanes a route is worked out in, and which it is added to (engine.rs 803-841, 1296-1343; document 01, Chunk and
 -- value). Definitions only.
 use Rattle.std.specs.Prelude.{Bool, true, false, cond, ◌&&◌, ◌||◌, List, ℕ, zero, suc, ◌+◌, ◌-◌, ◌*◌, ◌/◌, eqb, ltb}
+use Rattle.std.specs.Prelude.{Option, Some, None}
 use Rattle.std.specs.Prelude.{get_or, Float}
 use Rattle.config.specs.Sizes.{lanes}
 use Rattle.number.specs.Number.{zero32, one32}
-use Rattle.voice.specs.declared.Newest.{Newest}
-use Rattle.voice.specs.declared.Newest.TheVariants as N
 use Rattle.model.specs.Env.{Env, is_fresh}
 
 -- one of the marks k .. k + c - 1 is set
@@ -34,33 +33,25 @@ in_span t lane =
     any_from (marks t) 0 (group_of lane + lanes) && any_from (marks t) (group_of lane) (t.stride - group_of lane)
 
 -- a lane, or none
-pub data Lane : Type 0 where
-  lane : ℕ → Lane
-  nowhere : Lane
-
-abbrev pub lane_if : Bool → ℕ → Lane
-lane_if true l = lane l
-lane_if false l = nowhere
-
-abbrev pub newest_lane : Newest → Lane
-newest_lane N.Nobody = nowhere
-newest_lane (N.Voice v) = lane v
+abbrev pub lane_if : Bool → ℕ → Option ℕ
+lane_if true l = Some l
+lane_if false l = None
 
 -- the route's lane that is added to a lane of the plan, by whether plan and route are per voice
-abbrev pub addend : Env → Bool → Bool → ℕ → Lane
+abbrev pub addend : Env → Bool → Bool → ℕ → Option ℕ
 addend t true true l = lane_if (in_group t l) l
 addend t true false l = lane_if (in_group t l) 0
-addend t false true l = newest_lane t.voices.newest
-addend t false false l = lane 0
+addend t false true l = t.voices.newest
+addend t false false l = Some 0
 
-abbrev pub same_group : ℕ → Lane → Bool
-same_group l (lane v) = eqb (group_of l) (group_of v)
-same_group l nowhere = false
+abbrev pub same_group : ℕ → Option ℕ → Bool
+same_group l (Some v) = eqb (group_of l) (group_of v)
+same_group l None = false
 
 -- the lanes in which the route is worked out, so that its slews move: whole groups
 abbrev pub worked : Env → Bool → Bool → ℕ → Bool
 worked t true true l = in_group t l
-worked t false true l = same_group l (newest_lane t.voices.newest)
+worked t false true l = same_group l t.voices.newest
 worked t true false l = ltb l lanes
 worked t false false l = ltb l lanes
 

@@ -17,7 +17,7 @@ use Rattle.state.specs.declared.Kind.{Kind}
 use Rattle.state.specs.declared.Kind.TheVariants as K
 use Rattle.state.specs.declared.NoteCurve.{NoteCurve}
 use Rattle.state.specs.declared.NoteCurve.TheVariants as N
-use Rattle.state.specs.declared.Flag.{Flag}
+use Rattle.state.specs.Answers.{Flag}
 use Rattle.state.specs.declared.State.{State}
 use Rattle.model.specs.Counts.{voice_count, engine_sources}
 use Rattle.model.specs.World.{World, mark_at, held_place, held_of, is_velocity, is_key, is_release, is_random}

@@ -1,6 +1,7 @@
 -- What is read of an engine: the shape of an output, its rows, chunks and single numbers (engine.rs 105-190, 382-390,
 -- 613-690; document 01, Chunk and value). Definitions only.
 use Rattle.std.specs.Prelude.{◌≡◌, refl, Bool, true, false, not, cond, ◌&&◌, ◌||◌, List, [], ◌∷◌, ◌++◌, map, ℕ, zero}
+use Rattle.std.specs.Prelude.{Option, Some, None}
 use Rattle.std.specs.Prelude.{suc, ◌+◌, ◌-◌, ◌*◌, min, eqb, ltb, length, take, Float}
 use Rattle.std.specs.Float.{nan}
 use Rattle.config.specs.Sizes.{period, most_destinations}
@@ -11,14 +12,12 @@ use Rattle.number.specs.Number.{plus, less, times, over, nearest32}
 use Rattle.voice.specs.Voices.{is_sounding}
 use Rattle.state.specs.declared.Plan.{Plan}
 use Rattle.state.specs.declared.Chunk.{Chunk}
-use Rattle.state.specs.declared.ChunkRead.{ChunkRead}
-use Rattle.state.specs.declared.ChunkRead.TheVariants as C
-use Rattle.state.specs.declared.Output.{Output}
-use Rattle.state.specs.declared.Output.TheVariants as O
-use Rattle.state.specs.declared.Reading.{Reading}
-use Rattle.state.specs.declared.Reading.TheVariants as R
-use Rattle.state.specs.declared.Ramped.{Ramped}
-use Rattle.state.specs.declared.Ramped.TheVariants as M
+use Rattle.state.specs.Output.{Output}
+use Rattle.state.specs.Output as O
+use Rattle.state.specs.Reading.{Reading}
+use Rattle.state.specs.Reading as R
+use Rattle.state.specs.Ramped.{Ramped}
+use Rattle.state.specs.Ramped as M
 use Rattle.state.specs.declared.Program.{Program}
 use Rattle.state.specs.declared.State.{State}
 use Rattle.model.specs.Counts.{voice_count, frame_count, stride_of, chunks_most, plan_total, plan_at, at}
@@ -40,9 +39,9 @@ unfoldable pub chunk_count : State → ℕ
 unfolding chunk_total
 chunk_count st = chunk_total st.block
 
-unfoldable pub chunk_at : State → ℕ → ChunkRead
+unfoldable pub chunk_at : State → ℕ → Option Chunk
 unfolding chunk_total chunk_of
-chunk_at st i = cond (ltb i (chunk_total st.block)) (C.Chunk (chunk_of st.block i)) C.Nothing
+chunk_at st i = cond (ltb i (chunk_total st.block)) (Some (chunk_of st.block i)) None
 
 -- ---- the plan of a destination
 

@@ -1,6 +1,7 @@
 -- A block: open (load, draws), a step a chunk (tick, chunk rows, audio rows, glides), close (phase, marks) (engine.rs
 -- 547-611, 756-769, 804-1011; document 01, Chunk and value). Definitions only.
 use Rattle.std.specs.Prelude.{Bool, true, false, cond, ◌&&◌, ◌||◌, List, [], ◌∷◌, ℕ, zero, suc, ◌+◌, ◌-◌, ◌*◌, ◌%◌, eqb}
+use Rattle.std.specs.Prelude.{Option, Some, None}
 use Rattle.std.specs.Prelude.{ltb, length, get_or, set, Float}
 use Rattle.config.specs.Sizes.{period, most_signal_stride}
 use Rattle.draw.specs.Xorshift.{step, draw_of}
@@ -13,8 +14,7 @@ use Rattle.voice.specs.Notes.{moving, glide_of, value_of, advanced}
 use Rattle.state.specs.declared.Kind.{Kind}
 use Rattle.state.specs.declared.Read.{Read}
 use Rattle.state.specs.declared.Read.TheVariants as D
-use Rattle.state.specs.declared.Aux.{Aux}
-use Rattle.state.specs.declared.Aux.TheVariants as X
+use Rattle.state.specs.declared.Input.{Input}
 use Rattle.state.specs.declared.Block.{Block}
 use Rattle.state.specs.declared.Chunk.{Chunk}
 use Rattle.state.specs.declared.SignalPart.{SignalPart}
@@ -122,9 +122,9 @@ draw_read st r p (D.Fed e v) d = d
 draw_read st r p D.Constant d = d
 draw_read st r p D.RouteRandom d = draw_voices st (random_start st r p) (voice_count st) d
 
-abbrev pub draw_aux : State → ℕ → Aux → Drawn → Drawn
-draw_aux st r X.Missing d = d
-draw_aux st r (X.With i) d = draw_read st r 1 i.read d
+abbrev pub draw_aux : State → ℕ → Option Input → Drawn → Drawn
+draw_aux st r None d = d
+draw_aux st r (Some i) d = draw_read st r 1 i.read d
 
 -- "in route order, source before aux": the first n routes
 unfoldable pub draw_routes : State → ℕ → Drawn → Drawn

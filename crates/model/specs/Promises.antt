@@ -3,14 +3,13 @@
 -- it, since no promise may speak of it. Definitions only.
 use Rattle.std.specs.Prelude.{◌≡◌, List, [], ℕ, Float}
 use Rattle.config.specs.declared.Config.{Config}
-use Rattle.state.specs.declared.Compiled.{Compiled}
 use Rattle.state.specs.declared.Destinations.{Destinations}
 use Rattle.state.specs.declared.Program.{Program}
 use Rattle.state.specs.declared.Signals.{Signals}
 use Rattle.state.specs.declared.Sources.{Sources}
 use Rattle.state.specs.declared.State.{State}
 use Rattle.state.specs.declared.Wiring.{Wiring}
-use Rattle.model.specs.Compile.{Memories, compile}
+use Rattle.model.specs.Compile.{Compiled, Memories, compile}
 use Rattle.model.specs.World.{World, world_of}
 use Rattle.model.specs.States.{with_draw}
 use Rattle.model.specs.Process.{process}

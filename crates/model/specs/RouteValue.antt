@@ -1,12 +1,10 @@
 -- A route's value in one lane (engine.rs 1013-1039, 1345-1399; document 01, Chunk and value). Definitions only.
-use Rattle.std.specs.Prelude.{Bool, true, false, not, cond, ◌&&◌, ℕ, ◌*◌, leb, ltb, Float}
+use Rattle.std.specs.Prelude.{Bool, true, false, not, cond, ◌&&◌, ℕ, ◌*◌, leb, ltb, Float, Option, Some, None}
 use Rattle.std.specs.Float.Ieee.{eq}
 use Rattle.number.specs.Number.{zero32, one32, two32, plus, less, times}
 use Rattle.state.specs.declared.Read.{Read}
 use Rattle.state.specs.declared.Read.TheVariants as D
 use Rattle.state.specs.declared.Input.{Input}
-use Rattle.state.specs.declared.Aux.{Aux}
-use Rattle.state.specs.declared.Aux.TheVariants as X
 use Rattle.state.specs.declared.Gain.{Gain}
 use Rattle.state.specs.declared.Gain.TheVariants as G
 use Rattle.state.specs.declared.Route.{Route}
@@ -46,9 +44,9 @@ sourced t f s j lane r =
     (plus (times (raw_in t f s j lane r) r.scale) r.offset)
     (spread r.bipolar (source_in t f s j lane r))
 
-abbrev pub with_aux : Env → Rows → Own → ℕ → ℕ → Route → Aux → Float → Float
-with_aux t f s j lane r X.Missing p = p
-with_aux t f s j lane r (X.With i) p = times p (flipped r.aux_invert (aux_in t f s j lane r i))
+abbrev pub with_aux : Env → Rows → Own → ℕ → ℕ → Route → Option Input → Float → Float
+with_aux t f s j lane r None p = p
+with_aux t f s j lane r (Some i) p = times p (flipped r.aux_invert (aux_in t f s j lane r i))
 
 abbrev pub gain_in : Env → Rows → ℕ → Float → Gain → Float
 gain_in t f lane live G.Live = live

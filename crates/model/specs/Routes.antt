@@ -1,5 +1,6 @@
 -- What a route reads and how it goes (document 01, Plan and route; program.rs 409-519). Definitions only.
-use Rattle.std.specs.Prelude.{Bool, true, false, cond, not, ◌&&◌, ◌||◌, List, map, ℕ, pos, get_or, Float}
+use Rattle.std.specs.Prelude.{Bool, true, false, cond, not, ◌&&◌, ◌||◌, List, map, ℕ, pos, get_or, Float, Option, Some}
+use Rattle.std.specs.Prelude.{None}
 use Rattle.std.specs.Float.{nan, fin}
 use Rattle.std.specs.Float.Ieee.{lt}
 use Rattle.number.specs.Number.{zero32, half32, one32, two32}
@@ -12,27 +13,20 @@ use Rattle.state.specs.declared.Kind.{Kind}
 use Rattle.state.specs.declared.Kind.TheVariants as K
 use Rattle.state.specs.declared.Range.{Range}
 use Rattle.state.specs.declared.Range.TheVariants as R
-use Rattle.state.specs.declared.Pick.TheVariants as P
-use Rattle.state.specs.declared.Aim.TheVariants as A
+use Rattle.std.specs.Prelude.{None}
+use Rattle.state.specs.declared.FedBy.{FedBy}
 use Rattle.state.specs.declared.Polarity.{Polarity}
 use Rattle.state.specs.declared.Polarity.TheVariants as Q
 use Rattle.state.specs.declared.Slot.{Slot}
 use Rattle.state.specs.declared.Read.{Read}
 use Rattle.state.specs.declared.Read.TheVariants as D
 use Rattle.state.specs.declared.Slew.{Slew}
-use Rattle.state.specs.declared.Slew.TheVariants as L
 use Rattle.state.specs.declared.Input.{Input}
-use Rattle.state.specs.declared.Aux.{Aux}
-use Rattle.state.specs.declared.Aux.TheVariants as X
 use Rattle.state.specs.declared.Gain.{Gain}
 use Rattle.state.specs.declared.Gain.TheVariants as G
 use Rattle.state.specs.declared.Route.{Route}
 use Rattle.state.specs.declared.Source.{Source}
 use Rattle.state.specs.declared.Sources.{Sources}
-use Rattle.state.specs.declared.AuxSource.{AuxSource}
-use Rattle.state.specs.declared.AuxSource.TheVariants as U
-use Rattle.state.specs.declared.Feeder.{Feeder}
-use Rattle.state.specs.declared.Feeder.TheVariants as E
 use Rattle.state.specs.declared.Reader.{Reader}
 use Rattle.state.specs.Registry.{source_at}
 use Rattle.model.specs.Feeds.{is_voice}
@@ -40,9 +34,9 @@ use Rattle.model.specs.Feeds.{is_voice}
 -- ---- amounts and outputs (program.rs 449-453)
 
 -- a thing at the plan of its feeder: "A fed read has its feeder's scope"; live where nothing feeds it
-abbrev pub linked : List ℕ → Feeder → Gain
-linked os E.Nothing = G.Live
-linked os (E.Dest d v) = G.Fed (index_of d os) v
+abbrev pub linked : List ℕ → Option FedBy → Gain
+linked os None = G.Live
+linked os (Some f) = G.Fed (index_of f.dest os) f.voice
 
 abbrev pub voice_gain : Gain → Bool
 voice_gain G.Live = false
@@ -82,16 +76,16 @@ voice_read D.RouteRandom = true
 
 -- ---- curves and slews (program.rs 462-484): "a slew exists" where a rise or a fall is above 0
 
-unfoldable pub slew_for : Float → Curve → Slew
+unfoldable pub slew_for : Float → Curve → Option Slew
 unfolding seconds_of rate_per_sample
 slew_for rate c =
     cond (lt zero32 (seconds_of c).rise || lt zero32 (seconds_of c).fall)
-    (L.Limit (rate_per_sample (seconds_of c).rise rate) (rate_per_sample (seconds_of c).fall rate))
-    L.Free
+    (Some (record { up = rate_per_sample (seconds_of c).rise rate; down = rate_per_sample (seconds_of c).fall rate }))
+    None
 
-abbrev pub free_slew : Slew → Bool
-free_slew L.Free = true
-free_slew (L.Limit up down) = false
+abbrev pub free_slew : Option Slew → Bool
+free_slew None = true
+free_slew (Some w) = false
 
 abbrev pub is_bipolar : Range → Bool
 is_bipolar R.Unipolar = false
@@ -103,17 +97,17 @@ unfolding slew_for
 input_by rate s i g c =
     record { read = read_by s i g; bipolar = is_bipolar s.range; table = not (is_linear c); slew = slew_for rate c }
 
-abbrev pub aux_by : Float → Sources → AuxSource → Gain → Curve → Aux
-aux_by rate ss U.Nothing g c = X.Missing
-aux_by rate ss (U.Source i) g c = X.With (input_by rate (source_at ss i) i g c)
+abbrev pub aux_by : Float → Sources → Option ℕ → Gain → Curve → Option Input
+aux_by rate ss None g c = None
+aux_by rate ss (Some i) g c = Some (input_by rate (source_at ss i) i g c)
 
-abbrev pub voice_aux : Aux → Bool
-voice_aux X.Missing = false
-voice_aux (X.With i) = voice_read i.read
+abbrev pub voice_aux : Option Input → Bool
+voice_aux None = false
+voice_aux (Some i) = voice_read i.read
 
-abbrev pub no_aux : Aux → Bool
-no_aux X.Missing = true
-no_aux (X.With i) = false
+abbrev pub no_aux : Option Input → Bool
+no_aux None = true
+no_aux (Some i) = false
 
 -- ---- the source, uncurved and unslewed, is scale times its value plus offset, by its own range and the slot's
 -- (program.rs 487-491)
@@ -140,12 +134,12 @@ offset_of true false = half32
 abbrev pub no_slot : Slot
 no_slot =
     record {
-      source = P.Nothing;
+      source = None;
       source_curve = C.Linear;
       amount = nan;
       polarity = Q.Unipolar;
-      destination = A.Nothing;
-      aux = P.Nothing;
+      destination = None;
+      aux = None;
       aux_invert = false;
       aux_curve = C.Linear;
       output = nan;
@@ -154,12 +148,12 @@ no_slot =
 
 -- plain: a per-voice source into a per-voice destination, uncurved, unslewed, without aux, at the slot's live gains
 -- (program.rs 497-503)
-abbrev pub simple_route : Bool → Input → Aux → Gain → Gain → Bool
+abbrev pub simple_route : Bool → Input → Option Input → Gain → Gain → Bool
 simple_route dv i x a o =
     voice_read i.read && (dv && (not i.table && (free_slew i.slew && (no_aux x && (live_gain a && live_gain o)))))
 
 -- by its inputs and gains; dv: its destination is per voice
-unfoldable pub route_by : ℕ → Slot → Bool → Input → Aux → Gain → Gain → Route
+unfoldable pub route_by : ℕ → Slot → Bool → Input → Option Input → Gain → Gain → Route
 route_by n s dv i x a o =
     record {
       slot = n;

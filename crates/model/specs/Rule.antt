@@ -12,10 +12,9 @@ use Rattle.state.specs.declared.Gain.TheVariants as G
 use Rattle.state.specs.declared.Route.{Route}
 use Rattle.state.specs.declared.Slot.{Slot}
 use Rattle.state.specs.declared.Wiring.{Wiring}
-use Rattle.state.specs.declared.AuxSource.TheVariants as X
+use Rattle.std.specs.Prelude.{Option, None, Some}
+use Rattle.state.specs.declared.FedBy.{FedBy}
 use Rattle.state.specs.declared.Candidate.{Candidate}
-use Rattle.state.specs.declared.Feeder.{Feeder}
-use Rattle.state.specs.declared.Feeder.TheVariants as E
 use Rattle.state.specs.Registry.{source_at, dest_at}
 use Rattle.model.specs.Wiring.{candidates}
 use Rattle.model.specs.Feeds.{counted_feed, dest_voice, feeder_of, aux_thing, counted_into, controls}
@@ -38,9 +37,9 @@ pub record Values : Type 0 where
 -- ---- what goes into a destination, off slots and registries
 
 -- read from the destination that feeds it, or as set
-abbrev pub fed_from : Feeder → Gain
-fed_from E.Nothing = G.Live
-fed_from (E.Dest d v) = G.Fed d v
+abbrev pub fed_from : Option FedBy → Gain
+fed_from None = G.Live
+fed_from (Some f) = G.Fed f.dest f.voice
 
 abbrev pub slot_of : Wiring → Candidate → Slot
 slot_of w c = get_or w.matrix.slot c.slot no_slot
@@ -67,7 +66,7 @@ unfolding candidates
 slots_into w d = candidates_into d (candidates w)
 
 abbrev pub no_candidate : Candidate
-no_candidate = record { slot = 0; source = 0; aux = X.Nothing; dest = 0 }
+no_candidate = record { slot = 0; source = 0; aux = None; dest = 0 }
 
 unfoldable pub slot_into : Wiring → ℕ → ℕ → Candidate
 unfolding slots_into

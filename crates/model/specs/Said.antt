@@ -3,6 +3,7 @@
 -- ranges and scopes; no compiled route, no plan, no order and no ready-made step stands in it. With the rest of the
 -- definitions it shares binary32's operations, the lookup, the slew step and the holding to bounds. Definitions only.
 use Rattle.std.specs.Prelude.{Bool, true, false, not, cond, ◌&&◌, ◌||◌, List, ℕ, zero, suc, ◌+◌, ◌-◌, ◌*◌, ◌/◌, eqb}
+use Rattle.std.specs.Prelude.{Option, Some, None}
 use Rattle.std.specs.Prelude.{leb, ltb, pos, get_or, Float}
 use Rattle.std.specs.Float.{inf, fin}
 use Rattle.std.specs.Float.Ieee.{lt, eq}
@@ -12,8 +13,6 @@ use Rattle.curve_table.specs.declared.Curve.{Curve}
 use Rattle.curve_table.specs.declared.Curve.TheVariants as C
 use Rattle.curve_table.specs.Table.{lookup_of}
 use Rattle.slew.specs.Slew.{slew_step}
-use Rattle.voice.specs.declared.Newest.{Newest}
-use Rattle.voice.specs.declared.Newest.TheVariants as N
 use Rattle.state.specs.declared.Kind.{Kind}
 use Rattle.state.specs.declared.Kind.TheVariants as K
 use Rattle.state.specs.declared.Scope.{Scope}
@@ -22,10 +21,8 @@ use Rattle.state.specs.declared.Range.{Range}
 use Rattle.state.specs.declared.Range.TheVariants as R
 use Rattle.state.specs.declared.Polarity.{Polarity}
 use Rattle.state.specs.declared.Polarity.TheVariants as Q
-use Rattle.state.specs.declared.Pick.{Pick}
-use Rattle.state.specs.declared.Pick.TheVariants as P
-use Rattle.state.specs.declared.Aim.{Aim}
-use Rattle.state.specs.declared.Aim.TheVariants as A
+use Rattle.std.specs.Prelude.{Option, None, Some}
+use Rattle.state.specs.declared.Target.{Target}
 use Rattle.state.specs.declared.Feed.{Feed}
 use Rattle.state.specs.declared.Feed.TheVariants as F
 use Rattle.state.specs.declared.Source.{Source}
@@ -57,7 +54,7 @@ pub record Instant : Type 0 where
   -- the voice is marked active
   pub active : ℕ → Bool
   -- the newest voice, if any
-  pub newest : Newest
+  pub newest : Option ℕ
   -- the held number of a source, in a lane
   pub held : ℕ → ℕ → Float
   -- the held number of a global source
@@ -176,17 +173,17 @@ module _ (w : Wiring) where
   abbrev pub slot_n : ℕ → Slot
   slot_n n = get_or w.matrix.slot n empty_slot
 
-  abbrev pub picks_known : Pick → Bool
-  picks_known P.Nothing = false
-  picks_known (P.Source i) = known_source w.sources i
+  abbrev pub picks_known : Option ℕ → Bool
+  picks_known None = false
+  picks_known (Some i) = known_source w.sources i
 
-  abbrev pub picks_no_unknown : Pick → Bool
-  picks_no_unknown P.Nothing = true
-  picks_no_unknown (P.Source i) = known_source w.sources i
+  abbrev pub picks_no_unknown : Option ℕ → Bool
+  picks_no_unknown None = true
+  picks_no_unknown (Some i) = known_source w.sources i
 
-  abbrev pub aims_at : Aim → ℕ → Bool
-  aims_at A.Nothing d = false
-  aims_at (A.At t) d = eqb (dest_place w.dests t) d && ltb d (dest_count w.dests)
+  abbrev pub aims_at : Option Target → ℕ → Bool
+  aims_at None d = false
+  aims_at (Some t) d = eqb (dest_place w.dests t) d && ltb d (dest_count w.dests)
 
   -- slot n is a route of destination d
   unfoldable pub sends : ℕ → ℕ → Bool
@@ -260,9 +257,9 @@ module _ (w : Wiring) where
   read_voice unfed s = way_voice (way_of s.kind) (each_voice s.scope)
   read_voice (fed_by e) s = per_voice e
 
-  abbrev pub pick_voice : Pick → Bool
-  pick_voice P.Nothing = false
-  pick_voice (P.Source i) = read_voice (source_feeder i) (source_at w.sources i)
+  abbrev pub pick_voice : Option ℕ → Bool
+  pick_voice None = false
+  pick_voice (Some i) = read_voice (source_feeder i) (source_at w.sources i)
 
   abbrev pub gain_voice : Feeding → Bool
   gain_voice unfed = false
@@ -288,9 +285,9 @@ module _ (w : Wiring) where
   offset_by false true = fin true 1 (pos 0)
   offset_by true false = half32
 
-  abbrev pub pick_range : Pick → Bool
-  pick_range P.Nothing = false
-  pick_range (P.Source i) = both_ways (source_at w.sources i).range
+  abbrev pub pick_range : Option ℕ → Bool
+  pick_range None = false
+  pick_range (Some i) = both_ways (source_at w.sources i).range
 
   abbrev pub scale_at : ℕ → Float
   scale_at n = scale_by (pick_range (slot_n n).source) (both_sides (slot_n n).polarity)
@@ -301,9 +298,9 @@ module _ (w : Wiring) where
   -- ---- plain by its slot: a source per voice into a destination per voice, uncurved, unslewed, without aux, amount
   -- and output unfed (program.rs 497-503)
 
-  abbrev pub picks_none : Pick → Bool
-  picks_none P.Nothing = true
-  picks_none (P.Source i) = false
+  abbrev pub picks_none : Option ℕ → Bool
+  picks_none None = true
+  picks_none (Some i) = false
 
   unfoldable pub simple_slot : ℕ → ℕ → Bool
   simple_slot n d =
@@ -361,9 +358,9 @@ module _ (w : Wiring) where
     read_row unfed i s = way_row (way_of s.kind) i (each_voice s.scope)
     read_row (fed_by e) i s = per_voice e
 
-    abbrev pub pick_row : Pick → Bool
-    pick_row P.Nothing = false
-    pick_row (P.Source i) = read_row (source_feeder i) i (source_at w.sources i)
+    abbrev pub pick_row : Option ℕ → Bool
+    pick_row None = false
+    pick_row (Some i) = read_row (source_feeder i) i (source_at w.sources i)
 
     unfoldable pub plain_slot : ℕ → ℕ → Bool
     plain_slot n d = per_voice d && (any_active 0 x.stride && (simple_slot n d && pick_row (slot_n n).source))
@@ -445,16 +442,16 @@ module _ (w : Wiring) where
 
       -- "Bipolar source, linear, into a bipolar slot: unchanged, not halved and doubled.": with neither curve nor slew
       -- it is scaled as it is read (engine.rs 1373-1375)
-      abbrev pub source_said : ℕ → ℕ → Curve → Pick → Float
-      source_said n l c P.Nothing = zero32
-      source_said n l c (P.Source i) =
+      abbrev pub source_said : ℕ → ℕ → Curve → Option ℕ → Float
+      source_said n l c None = zero32
+      source_said n l c (Some i) =
           cond (straight c && not (slews c)) (plus (times (source_read n 0 l i) (scale_at n)) (offset_at n))
           (sided n (input_said n 0 l c i))
 
       -- times the aux, or 1 less the aux where it is inverted (engine.rs 1384-1390)
-      abbrev pub times_aux : ℕ → ℕ → Pick → Float → Float
-      times_aux n l P.Nothing u = u
-      times_aux n l (P.Source i) u =
+      abbrev pub times_aux : ℕ → ℕ → Option ℕ → Float → Float
+      times_aux n l None u = u
+      times_aux n l (Some i) u =
           let a = input_said n 1 l (slot_n n).aux_curve i in
           times u (cond (slot_n n).aux_invert (less one32 a) a)
 
@@ -470,9 +467,9 @@ module _ (w : Wiring) where
 
       -- added to lane l of the destination (engine.rs 1313-1343). "A voice route into a global plan reads the newest
       -- voice only."
-      abbrev pub add_newest : ℕ → Float → Newest → Float
-      add_newest n a N.Nobody = a
-      add_newest n a (N.Voice v) = plus a (term n v)
+      abbrev pub add_newest : ℕ → Float → Option ℕ → Float
+      add_newest n a None = a
+      add_newest n a (Some v) = plus a (term n v)
 
       abbrev pub add_term : ℕ → ℕ → Float → Float
       add_term n l a =
@@ -498,9 +495,9 @@ module _ (w : Wiring) where
 
       -- "added to the base, then each input times its scaled gain (scale times gain), where that is not 0, is added in
       -- slot order"
-      abbrev pub pick_read : ℕ → ℕ → Pick → Float
-      pick_read n l P.Nothing = zero32
-      pick_read n l (P.Source i) = source_read n 0 l i
+      abbrev pub pick_read : ℕ → ℕ → Option ℕ → Float
+      pick_read n l None = zero32
+      pick_read n l (Some i) = source_read n 0 l i
 
       abbrev pub scaled_at : ℕ → Float
       scaled_at n = times (scale_at n) (product n)

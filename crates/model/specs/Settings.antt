@@ -20,7 +20,7 @@ use Rattle.state.specs.declared.SourceMark.{SourceMark}
 use Rattle.state.specs.declared.Gains.{Gains}
 use Rattle.state.specs.declared.Program.{Program}
 use Rattle.state.specs.declared.Signals.{Signals}
-use Rattle.state.specs.declared.Bound.{Bound}
+use Rattle.state.specs.Answers.{Bound}
 use Rattle.state.specs.declared.State.{State}
 use Rattle.state.specs.Registry.{source_count, dest_count, no_source, no_dest}
 use Rattle.model.specs.Feeds.{is_voice}

@@ -1,11 +1,10 @@
 -- WHAT A BLOCK SHOWS OF ITS TICKS: after it, at each of its chunks that ticks, `to_part` hands back, of each control
 -- destination in use and in each lane, the number that the tick left, of which `Claimed.rule` speaks (Claim.antt).
 -- Definitions only; proved in proofs/Shown.antt.
-use Rattle.std.specs.Prelude.{◌≡◌, List, [], ◌∷◌, ℕ, ◌+◌, ◌*◌, ◌<◌}
+use Rattle.std.specs.Prelude.{◌≡◌, List, [], ◌∷◌, ℕ, ◌+◌, ◌*◌, ◌<◌, Some}
 use Rattle.feed.specs.Numbers.{In}
 use Rattle.state.specs.declared.Chunk.{Chunk}
-use Rattle.state.specs.declared.ChunkRead.TheVariants as C
-use Rattle.state.specs.declared.Output.TheVariants as O
+use Rattle.state.specs.Output as O
 use Rattle.state.specs.declared.Wiring.{Wiring}
 use Rattle.model.specs.Feeds.{controls}
 use Rattle.model.specs.Counts.{at}
@@ -26,7 +25,7 @@ pub record Shown (x : Moment) (v : World) : Type 0 where
   -- it stands where the tick does
   pub stood : (chunk.start, chunk.phase) ≡ stands x
   -- it is there by its number
-  pub there : chunk_at v.state number ≡ C.Chunk chunk
+  pub there : chunk_at v.state number ≡ Some chunk
   -- the destination has a control plan, a row of its lanes a chunk
   pub shape : (d : ℕ) → In d (controls x.wiring)
       → shape_of v.state d ≡ O.Control (lanes_of x.wiring x.env d) (chunk_total v.state.block)

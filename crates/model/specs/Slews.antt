@@ -1,7 +1,6 @@
 -- The slews of a destination's routes after it was worked out once (engine.rs 1326-1343, 1434-1446). Definitions only.
-use Rattle.std.specs.Prelude.{Bool, not, cond, ◌&&◌, ◌||◌, ℕ, Float}
-use Rattle.state.specs.declared.Aux.{Aux}
-use Rattle.state.specs.declared.Aux.TheVariants as X
+use Rattle.std.specs.Prelude.{Bool, not, cond, ◌&&◌, ◌||◌, ℕ, Float, Option, Some, None}
+use Rattle.state.specs.declared.Input.{Input}
 use Rattle.state.specs.declared.Route.{Route}
 use Rattle.model.specs.Env.{Env, Rows, Own}
 use Rattle.model.specs.Mix.{Mix}
@@ -14,9 +13,9 @@ abbrev pub moves_in : Env → Mix → Route → ℕ → Bool
 moves_in t x r l = not (plain t x.voice r || idle t r) && worked t x.voice r.voice l
 
 -- the aux's, where there is one
-abbrev pub aux_slew : Env → Mix → Rows → Own → ℕ → Route → ℕ → Aux → Float
-aux_slew t x f s j r l X.Missing = s j 1 l
-aux_slew t x f s j r l (X.With i) = cond (not (free_slew i.slew) && moves_in t x r l) (aux_in t f s j l r i) (s j 1 l)
+abbrev pub aux_slew : Env → Mix → Rows → Own → ℕ → Route → ℕ → Option Input → Float
+aux_slew t x f s j r l None = s j 1 l
+aux_slew t x f s j r l (Some i) = cond (not (free_slew i.slew) && moves_in t x r l) (aux_in t f s j l r i) (s j 1 l)
 
 -- THE SLEWS of route j afterwards, of its source and of its aux, in lane l
 unfoldable pub source_after : Env → Mix → Rows → Own → ℕ → ℕ → Float

@@ -20,8 +20,7 @@ use Rattle.state.specs.declared.Scope.TheVariants as S
 use Rattle.state.specs.declared.Range.TheVariants as R
 use Rattle.state.specs.declared.Rate.TheVariants as T
 use Rattle.state.specs.declared.Feed.TheVariants as F
-use Rattle.state.specs.declared.Pick.TheVariants as P
-use Rattle.state.specs.declared.Aim.TheVariants as M
+use Rattle.std.specs.Prelude.{None, Some}
 use Rattle.state.specs.declared.Polarity.TheVariants as Q
 use Rattle.state.specs.declared.NoteCurve.TheVariants as N
 use Rattle.state.specs.declared.Source.{Source}
@@ -73,7 +72,7 @@ abbrev source : Kind → Scope → Range → Source
 source k s r = record { key = []; len = 0; kind = k; scope = s; range = r }
 
 abbrev unused : Slot
-unused = record { source = P.Nothing; source_curve = C.Linear; amount = fin false 0 (pos 0); polarity = Q.Unipolar; destination = M.Nothing; aux = P.Nothing; aux_invert = false; aux_curve = C.Linear; output = fin false 1 (pos 0); bypass = false }
+unused = record { source = None; source_curve = C.Linear; amount = fin false 0 (pos 0); polarity = Q.Unipolar; destination = None; aux = None; aux_invert = false; aux_curve = C.Linear; output = fin false 1 (pos 0); bypass = false }
 
 -- registries and slots as far as they are filled
 abbrev wired_as : Config → List Source → List Dest → List Slot → NoteCurve → NoteCurve → Bool → Bool → Wiring
@@ -118,12 +117,12 @@ r11 =
     start_with (wired_as (record { sample_rate = (fin false 1 (pos 6)); max_frames = 64; voices = 1 })
     (source (K.Constant) S.Global R.Unipolar ∷ [])
     (record { target = (A.Param 0); scope = S.Global; rate = T.Control; min = (inf true); max = (inf false); feed = F.Nothing } ∷ [])
-    (record { source = P.Source 0; source_curve = C.Table (fin false 1 (pos 0)) (fin false 0 (pos 0)); amount = (fin false 1 (pos 0)); polarity = Q.Unipolar; destination = M.At (A.Param 0); aux = P.Nothing; aux_invert = false; aux_curve = C.Linear; output = (fin false 1 (pos 0)); bypass = false } ∷ [])
+    (record { source = Some 0; source_curve = C.Table (fin false 1 (pos 0)) (fin false 0 (pos 0)); amount = (fin false 1 (pos 0)); polarity = Q.Unipolar; destination = Some (A.Param 0); aux = None; aux_invert = false; aux_curve = C.Linear; output = (fin false 1 (pos 0)); bypass = false } ∷ [])
     N.Linear N.Linear false false)
     (kept_of (wired_as (record { sample_rate = (fin false 1 (pos 6)); max_frames = 64; voices = 1 })
     (source (K.Constant) S.Global R.Unipolar ∷ [])
     (record { target = (A.Param 0); scope = S.Global; rate = T.Control; min = (inf true); max = (inf false); feed = F.Nothing } ∷ [])
-    (record { source = P.Source 0; source_curve = C.Table (fin false 1 (pos 0)) (fin false 0 (pos 0)); amount = (fin false 1 (pos 0)); polarity = Q.Unipolar; destination = M.At (A.Param 0); aux = P.Nothing; aux_invert = false; aux_curve = C.Linear; output = (fin false 1 (pos 0)); bypass = false } ∷ [])
+    (record { source = Some 0; source_curve = C.Table (fin false 1 (pos 0)) (fin false 0 (pos 0)); amount = (fin false 1 (pos 0)); polarity = Q.Unipolar; destination = Some (A.Param 0); aux = None; aux_invert = false; aux_curve = C.Linear; output = (fin false 1 (pos 0)); bypass = false } ∷ [])
     N.Linear N.Linear false false) (tabulated diagonal_at ++ (replicate 66177 zero32)) ∷ [])
 
 c11 : List (List Call)
@@ -139,12 +138,12 @@ r29 =
     start_with (wired_as (record { sample_rate = (fin false 1 (pos 6)); max_frames = 32; voices = 1 })
     (source (K.Held) S.Global R.Unipolar ∷ source (K.Constant) S.Global R.Unipolar ∷ [])
     (record { target = (A.Param 0); scope = S.Global; rate = T.Control; min = (inf true); max = (inf false); feed = (F.Source 0) } ∷ record { target = (A.Param 1); scope = S.Global; rate = T.Control; min = (inf true); max = (inf false); feed = (F.Source 0) } ∷ [])
-    (record { source = P.Source 0; source_curve = C.Linear; amount = (fin false 1 (pos 0)); polarity = Q.Unipolar; destination = M.At (A.Param 0); aux = P.Nothing; aux_invert = false; aux_curve = C.Linear; output = (fin false 1 (pos 0)); bypass = false } ∷ record { source = P.Source 1; source_curve = C.Linear; amount = (fin false 1 (pos 0)); polarity = Q.Unipolar; destination = M.At (A.Param 1); aux = P.Nothing; aux_invert = false; aux_curve = C.Linear; output = (fin false 1 (pos 0)); bypass = false } ∷ [])
+    (record { source = Some 0; source_curve = C.Linear; amount = (fin false 1 (pos 0)); polarity = Q.Unipolar; destination = Some (A.Param 0); aux = None; aux_invert = false; aux_curve = C.Linear; output = (fin false 1 (pos 0)); bypass = false } ∷ record { source = Some 1; source_curve = C.Linear; amount = (fin false 1 (pos 0)); polarity = Q.Unipolar; destination = Some (A.Param 1); aux = None; aux_invert = false; aux_curve = C.Linear; output = (fin false 1 (pos 0)); bypass = false } ∷ [])
     N.Linear N.Linear false false)
     (kept_of (wired_as (record { sample_rate = (fin false 1 (pos 6)); max_frames = 32; voices = 1 })
     (source (K.Held) S.Global R.Unipolar ∷ source (K.Constant) S.Global R.Unipolar ∷ [])
     (record { target = (A.Param 0); scope = S.Global; rate = T.Control; min = (inf true); max = (inf false); feed = (F.Source 0) } ∷ record { target = (A.Param 1); scope = S.Global; rate = T.Control; min = (inf true); max = (inf false); feed = (F.Source 0) } ∷ [])
-    (record { source = P.Source 0; source_curve = C.Linear; amount = (fin false 1 (pos 0)); polarity = Q.Unipolar; destination = M.At (A.Param 0); aux = P.Nothing; aux_invert = false; aux_curve = C.Linear; output = (fin false 1 (pos 0)); bypass = false } ∷ record { source = P.Source 1; source_curve = C.Linear; amount = (fin false 1 (pos 0)); polarity = Q.Unipolar; destination = M.At (A.Param 1); aux = P.Nothing; aux_invert = false; aux_curve = C.Linear; output = (fin false 1 (pos 0)); bypass = false } ∷ [])
+    (record { source = Some 0; source_curve = C.Linear; amount = (fin false 1 (pos 0)); polarity = Q.Unipolar; destination = Some (A.Param 0); aux = None; aux_invert = false; aux_curve = C.Linear; output = (fin false 1 (pos 0)); bypass = false } ∷ record { source = Some 1; source_curve = C.Linear; amount = (fin false 1 (pos 0)); polarity = Q.Unipolar; destination = Some (A.Param 1); aux = None; aux_invert = false; aux_curve = C.Linear; output = (fin false 1 (pos 0)); bypass = false } ∷ [])
     N.Linear N.Linear false false) [] ∷ [])
 
 c29 : List (List Call)
@@ -160,12 +159,12 @@ r41 =
     start_with (wired_as (record { sample_rate = (fin false 1 (pos 6)); max_frames = 32; voices = 1 })
     (source (K.Held) S.Voice R.Bipolar ∷ [])
     (record { target = (A.Param 0); scope = S.Voice; rate = T.Control; min = (inf true); max = (inf false); feed = F.Nothing } ∷ [])
-    (record { source = P.Source 0; source_curve = C.Linear; amount = (fin false 1 (negsuc 22)); polarity = Q.Unipolar; destination = M.At (A.Param 0); aux = P.Nothing; aux_invert = false; aux_curve = C.Linear; output = (fin false 1 (pos 0)); bypass = false } ∷ record { source = P.Source 0; source_curve = C.Linear; amount = (fin false 1 (negsuc 22)); polarity = Q.Unipolar; destination = M.At (A.Param 0); aux = P.Nothing; aux_invert = false; aux_curve = C.Linear; output = (fin false 1 (pos 0)); bypass = false } ∷ [])
+    (record { source = Some 0; source_curve = C.Linear; amount = (fin false 1 (negsuc 22)); polarity = Q.Unipolar; destination = Some (A.Param 0); aux = None; aux_invert = false; aux_curve = C.Linear; output = (fin false 1 (pos 0)); bypass = false } ∷ record { source = Some 0; source_curve = C.Linear; amount = (fin false 1 (negsuc 22)); polarity = Q.Unipolar; destination = Some (A.Param 0); aux = None; aux_invert = false; aux_curve = C.Linear; output = (fin false 1 (pos 0)); bypass = false } ∷ [])
     N.Linear N.Linear false false)
     (kept_of (wired_as (record { sample_rate = (fin false 1 (pos 6)); max_frames = 32; voices = 1 })
     (source (K.Held) S.Voice R.Bipolar ∷ [])
     (record { target = (A.Param 0); scope = S.Voice; rate = T.Control; min = (inf true); max = (inf false); feed = F.Nothing } ∷ [])
-    (record { source = P.Source 0; source_curve = C.Linear; amount = (fin false 1 (negsuc 22)); polarity = Q.Unipolar; destination = M.At (A.Param 0); aux = P.Nothing; aux_invert = false; aux_curve = C.Linear; output = (fin false 1 (pos 0)); bypass = false } ∷ record { source = P.Source 0; source_curve = C.Linear; amount = (fin false 1 (negsuc 22)); polarity = Q.Unipolar; destination = M.At (A.Param 0); aux = P.Nothing; aux_invert = false; aux_curve = C.Linear; output = (fin false 1 (pos 0)); bypass = false } ∷ [])
+    (record { source = Some 0; source_curve = C.Linear; amount = (fin false 1 (negsuc 22)); polarity = Q.Unipolar; destination = Some (A.Param 0); aux = None; aux_invert = false; aux_curve = C.Linear; output = (fin false 1 (pos 0)); bypass = false } ∷ record { source = Some 0; source_curve = C.Linear; amount = (fin false 1 (negsuc 22)); polarity = Q.Unipolar; destination = Some (A.Param 0); aux = None; aux_invert = false; aux_curve = C.Linear; output = (fin false 1 (pos 0)); bypass = false } ∷ [])
     N.Linear N.Linear false false) [] ∷ [])
 
 c41 : List (List Call)
@@ -181,12 +180,12 @@ r42 =
     start_with (wired_as (record { sample_rate = (fin false 1 (pos 6)); max_frames = 32; voices = 1 })
     (source (K.Held) S.Voice R.Bipolar ∷ [])
     (record { target = (A.Param 0); scope = S.Voice; rate = T.Control; min = (inf true); max = (inf false); feed = F.Nothing } ∷ [])
-    (record { source = P.Source 0; source_curve = C.Linear; amount = (fin false 3 (negsuc 148)); polarity = Q.Unipolar; destination = M.At (A.Param 0); aux = P.Nothing; aux_invert = false; aux_curve = C.Linear; output = (fin false 1 (pos 0)); bypass = false } ∷ [])
+    (record { source = Some 0; source_curve = C.Linear; amount = (fin false 3 (negsuc 148)); polarity = Q.Unipolar; destination = Some (A.Param 0); aux = None; aux_invert = false; aux_curve = C.Linear; output = (fin false 1 (pos 0)); bypass = false } ∷ [])
     N.Linear N.Linear false false)
     (kept_of (wired_as (record { sample_rate = (fin false 1 (pos 6)); max_frames = 32; voices = 1 })
     (source (K.Held) S.Voice R.Bipolar ∷ [])
     (record { target = (A.Param 0); scope = S.Voice; rate = T.Control; min = (inf true); max = (inf false); feed = F.Nothing } ∷ [])
-    (record { source = P.Source 0; source_curve = C.Linear; amount = (fin false 3 (negsuc 148)); polarity = Q.Unipolar; destination = M.At (A.Param 0); aux = P.Nothing; aux_invert = false; aux_curve = C.Linear; output = (fin false 1 (pos 0)); bypass = false } ∷ [])
+    (record { source = Some 0; source_curve = C.Linear; amount = (fin false 3 (negsuc 148)); polarity = Q.Unipolar; destination = Some (A.Param 0); aux = None; aux_invert = false; aux_curve = C.Linear; output = (fin false 1 (pos 0)); bypass = false } ∷ [])
     N.Linear N.Linear false false) [] ∷ [])
 
 c42 : List (List Call)

@@ -1,12 +1,12 @@
 -- The sum of a destination in one lane, part after part: the base, the plain offsets as one, the plain products in slot
 -- order, then the other routes in slot order (engine.rs 850-905, 1060-1112, 1313-1343; document 01, Chunk and value).
 -- Each sum is over the first k routes. Definitions only.
-use Rattle.std.specs.Prelude.{Bool, true, false, not, cond, ◌&&◌, ◌||◌, ℕ, zero, suc, Float}
+use Rattle.std.specs.Prelude.{Bool, true, false, not, cond, ◌&&◌, ◌||◌, ℕ, zero, suc, Float, Option, None, Some}
 use Rattle.number.specs.Number.{zero32, plus, times}
 use Rattle.state.specs.declared.Route.{Route}
 use Rattle.model.specs.Env.{Env, Rows, Own, gain_of, base_of}
 use Rattle.model.specs.Mix.{Mix}
-use Rattle.model.specs.Lanes.{Lane, lane, nowhere, addend, in_span}
+use Rattle.model.specs.Lanes.{addend, in_span}
 use Rattle.model.specs.RouteValue.{route_value, raw_in, is_zero, idle, plain}
 
 abbrev pub base_in : Env → Mix → Float
@@ -53,9 +53,9 @@ has_plain t x = some_plain t x x.count
 
 -- ---- the other routes, added to what there is before them
 
-abbrev pub add_lane : Env → Rows → Own → ℕ → Route → Float → Lane → Float
-add_lane t f s j r a (lane l) = plus a (route_value t f s j l r)
-add_lane t f s j r a nowhere = a
+abbrev pub add_lane : Env → Rows → Own → ℕ → Route → Float → Option ℕ → Float
+add_lane t f s j r a (Some l) = plus a (route_value t f s j l r)
+add_lane t f s j r a None = a
 
 abbrev pub other_step : Env → Rows → Own → Mix → ℕ → ℕ → Route → Float → Float
 other_step t f s x j l r a =

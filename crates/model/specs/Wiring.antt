@@ -2,31 +2,27 @@
 use Rattle.std.specs.Prelude.{Bool, true, cond, not, List, [], ◌∷◌, ℕ, suc, ltb}
 use Rattle.state.specs.declared.Sources.{Sources}
 use Rattle.state.specs.declared.Destinations.{Destinations}
-use Rattle.state.specs.declared.Pick.{Pick}
-use Rattle.state.specs.declared.Pick.TheVariants as P
-use Rattle.state.specs.declared.Aim.{Aim}
-use Rattle.state.specs.declared.Aim.TheVariants as A
+use Rattle.std.specs.Prelude.{Option, None, Some}
+use Rattle.state.specs.declared.Target.{Target}
 use Rattle.state.specs.declared.Slot.{Slot}
 use Rattle.state.specs.declared.Reason.TheVariants.{UnknownSource, UnknownAux, UnknownDestination}
 use Rattle.state.specs.declared.Skipped.{Skipped}
 use Rattle.state.specs.declared.Wiring.{Wiring}
-use Rattle.state.specs.declared.AuxSource.{AuxSource}
-use Rattle.state.specs.declared.AuxSource.TheVariants as X
 use Rattle.state.specs.declared.Candidate.{Candidate}
 use Rattle.state.specs.declared.Verdict.{Verdict}
 use Rattle.state.specs.declared.Verdict.TheVariants.{Over, LeftOut, Taken}
 use Rattle.state.specs.Registry.{known_source, dest_count, dest_place}
 
-abbrev pub aux_known : Sources → Pick → Bool
-aux_known ss P.Nothing = true
-aux_known ss (P.Source i) = known_source ss i
+abbrev pub aux_known : Sources → Option ℕ → Bool
+aux_known ss None = true
+aux_known ss (Some i) = known_source ss i
 
-abbrev pub aux_of : Pick → AuxSource
-aux_of P.Nothing = X.Nothing
-aux_of (P.Source i) = X.Source i
+abbrev pub aux_of : Option ℕ → Option ℕ
+aux_of None = None
+aux_of (Some i) = Some i
 
 -- the reasons in their order, one a slot
-abbrev pub looked : Sources → Destinations → ℕ → ℕ → Pick → ℕ → Verdict
+abbrev pub looked : Sources → Destinations → ℕ → ℕ → Option ℕ → ℕ → Verdict
 looked ss ds n i aux d =
     cond (not (known_source ss i)) (LeftOut UnknownSource)
     (cond (not (aux_known ss aux)) (LeftOut UnknownAux)
@@ -34,10 +30,10 @@ looked ss ds n i aux d =
     (LeftOut UnknownDestination)))
 
 -- "Missing source or destination: passed over in silence; then bypass, likewise"
-abbrev pub verdict_by : Sources → Destinations → ℕ → Bool → Pick → Pick → Aim → Verdict
-verdict_by ss ds n bypass aux P.Nothing a = Over
-verdict_by ss ds n bypass aux (P.Source i) A.Nothing = Over
-verdict_by ss ds n bypass aux (P.Source i) (A.At t) = cond bypass Over (looked ss ds n i aux (dest_place ds t))
+abbrev pub verdict_by : Sources → Destinations → ℕ → Bool → Option ℕ → Option ℕ → Option Target → Verdict
+verdict_by ss ds n bypass aux None a = Over
+verdict_by ss ds n bypass aux (Some i) None = Over
+verdict_by ss ds n bypass aux (Some i) (Some t) = cond bypass Over (looked ss ds n i aux (dest_place ds t))
 
 unfoldable pub verdict : Sources → Destinations → ℕ → Slot → Verdict
 verdict ss ds n s = verdict_by ss ds n s.bypass s.aux s.source s.destination

@@ -34,11 +34,10 @@ use Rattle.state.specs.declared.Dest.{Dest}
 use Rattle.state.specs.declared.Slot.{Slot}
 use Rattle.state.specs.declared.Range.{Range}
 use Rattle.curve_table.specs.declared.Curve.TheVariants as C
-use Rattle.state.specs.declared.Aim.TheVariants as M
+use Rattle.std.specs.Prelude.{None, Some}
 use Rattle.state.specs.declared.Feed.TheVariants as F
 use Rattle.state.specs.declared.Kind.TheVariants as K
 use Rattle.state.specs.declared.NoteCurve.TheVariants as N
-use Rattle.state.specs.declared.Pick.TheVariants as P
 use Rattle.state.specs.declared.Polarity.TheVariants as Q
 use Rattle.state.specs.declared.Range.TheVariants as R
 use Rattle.state.specs.declared.Rate.TheVariants as T
@@ -93,12 +92,12 @@ free_dest n s f = record { target = G.Param n; scope = s; rate = T.Control; min 
 abbrev any_slot : ℕ → Curve → ℕ → Float → Polarity → Slot
 any_slot i c n amount p =
     record {
-      source = P.Source i;
+      source = Some i;
       source_curve = c;
       amount = amount;
       polarity = p;
-      destination = M.At (G.Param n);
-      aux = P.Nothing;
+      destination = Some (G.Param n);
+      aux = None;
       aux_invert = false;
       aux_curve = C.Linear;
       output = one32;

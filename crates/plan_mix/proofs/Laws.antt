@@ -1,4 +1,5 @@
 -- What sixteen lanes change in the sums and in the new slews. Assumes nothing.
+use Rattle.std.specs.Prelude.{Option, Some, None}
 use mathlib.Core.Path.{◌≡◌, refl, sym, ap, ◌∙◌}
 use mathlib.Core.Bool.{Bool, true, false, not, cond, ◌&&◌}
 use mathlib.Core.Logic.{⊎_elim}
@@ -9,8 +10,7 @@ use native.Mathlib.Omega.{arith}
 use lib.ListN.{length, set, length-set}
 use lib.Seq.{get_or-set_same, get_or-set_other}
 use lib.Ieee.{Float, nan}
-use Rattle.state.specs.declared.Aux.{Aux}
-use Rattle.state.specs.declared.Aux.TheVariants as X
+use Rattle.state.specs.declared.Input.{Input}
 use Rattle.state.specs.declared.Route.{Route}
 use Rattle.model.specs.Counts.{at}
 use Rattle.model.specs.Env.{Env, Rows, Own}
@@ -87,9 +87,9 @@ and-false : (b : Bool) → b && false ≡ false
 and-false true = refl
 and-false false = refl
 
-aux-kept : (t : Env) (f : Rows) (s : Own) (j : ℕ) (r : Route) (l : ℕ) (aux : Aux) → aux_by t f s j r false l aux ≡ s j 1 l
-aux-kept t f s j r l X.Missing = refl
-aux-kept t f s j r l (X.With i) = rw (and-false (not (free_slew i.slew)))
+aux-kept : (t : Env) (f : Rows) (s : Own) (j : ℕ) (r : Route) (l : ℕ) (aux : Option Input) → aux_by t f s j r false l aux ≡ s j 1 l
+aux-kept t f s j r l None = refl
+aux-kept t f s j r l (Some i) = rw (and-false (not (free_slew i.slew)))
 
 -- where a group is not worked out they are as they were
 pub kept_by : (t : Env) (f : Rows) (s : Own) (j : ℕ) (r : Route) (q l : ℕ) → q < 2 → s j q l ≡ slew_by t f s j r false q l
@@ -110,7 +110,7 @@ with-by : (free : Bool) (k src : Float) {x y : Float} → x ≡ cond free k y �
 with-by true k src e d = e
 with-by false k src e d = e ∙ d
 
-pub aux-by : (t : Env) (f : Rows) (s : Own) (j : ℕ) (r : Route) (aux : Aux) (a l : ℕ) (z : List Float) {free : Bool} {x : Float} → l < 16 → free ≡ aux_free aux
+pub aux-by : (t : Env) (f : Rows) (s : Own) (j : ℕ) (r : Route) (aux : Option Input) (a l : ℕ) (z : List Float) {free : Bool} {x : Float} → l < 16 → free ≡ aux_free aux
     → x ≡ cond free (s j 1 (a + l)) (at z l) → Withs t f s j r aux a z → x ≡ aux_by t f s j r true (a + l) aux
-aux-by t f s j r X.Missing a l z h n e w = rw n at e
-aux-by t f s j r (X.With i) a l z h n e w = with-by (free_slew i.slew) (s j 1 (a + l)) (aux_in t f s j (a + l) r i) (rw n at e) (w l h)
+aux-by t f s j r None a l z h n e w = rw n at e
+aux-by t f s j r (Some i) a l z h n e w = with-by (free_slew i.slew) (s j 1 (a + l)) (aux_in t f s j (a + l) r i) (rw n at e) (w l h)

@@ -1,4 +1,5 @@
 -- A route per voice into a plan per voice, group by group, and its slews afterwards. Assumes nothing.
+use Rattle.std.specs.Prelude.{Option, Some, None}
 use mathlib.Core.Path.{◌≡◌, refl, sym, ap, ◌∙◌, subst}
 use mathlib.Core.Bool.{Bool, true, false}
 use mathlib.Core.Logic.{⊎_elim}
@@ -9,8 +10,7 @@ use borrow.Author.Tests.{ltb-true, ltb-false}
 use lib.Dec.{ltb}
 use lib.ListN.{get_or}
 use lib.Ieee.{Float}
-use Rattle.state.specs.declared.Aux.{Aux}
-use Rattle.state.specs.declared.Aux.TheVariants as X
+use Rattle.state.specs.declared.Input.{Input}
 use Rattle.state.specs.declared.Route.{Route}
 use Rattle.model.specs.Counts.{at}
 use Rattle.model.specs.Env.{Env, Rows, Own}
@@ -87,9 +87,9 @@ module _ (t : Env) (x : Mix) (f : Rows) (s : Own) (j : ℕ) (r : Route) (q : x.r
   moves-is : moves_in t x r l ≡ in_group t l
   moves-is = rw (p, i, v, w)
 
-  aux-is : (aux : Aux) → aux_by t f s j r (in_group t l) l aux ≡ aux_slew t x f s j r l aux
-  aux-is X.Missing = refl
-  aux-is (X.With u) = rw moves-is
+  aux-is : (aux : Option Input) → aux_by t f s j r (in_group t l) l aux ≡ aux_slew t x f s j r l aux
+  aux-is None = refl
+  aux-is (Some u) = rw moves-is
 
   source_is : slew_by t f s j r (in_group t l) 0 l ≡ source_after t x f s j l
   unfolding source_after

@@ -1,9 +1,8 @@
 -- What a group of lanes changes in the sums and in the new slews of a plan. Definitions only.
-use Rattle.std.specs.Prelude.{◌≡◌, Bool, false, not, cond, ◌&&◌, List, ℕ, zero, suc, ◌+◌, ◌≤◌, ◌<◌, length, Float}
+use Rattle.std.specs.Prelude.{◌≡◌, Bool, false, not, cond, ◌&&◌, List, ℕ, zero, suc, ◌+◌, ◌≤◌, ◌<◌, length, Float, Option, Some, None}
 use Rattle.config.specs.Sizes.{lanes}
 use Rattle.number.specs.Number.{plus}
-use Rattle.state.specs.declared.Aux.{Aux}
-use Rattle.state.specs.declared.Aux.TheVariants as X
+use Rattle.state.specs.declared.Input.{Input}
 use Rattle.state.specs.declared.Route.{Route}
 use Rattle.model.specs.Counts.{at}
 use Rattle.model.specs.Env.{Env, Rows, Own}
@@ -31,9 +30,9 @@ pub record Beside (a : ℕ) (old out : List Float) : Type 0 where
   pub rest : (l : ℕ) → a + lanes ≤ l → at out l ≡ at old l
 
 -- the slew of an aux of route j in lane l, by whether slews move there
-abbrev pub aux_by : Env → Rows → Own → ℕ → Route → Bool → ℕ → Aux → Float
-aux_by t f s j r on l X.Missing = s j 1 l
-aux_by t f s j r on l (X.With i) = cond (not (free_slew i.slew) && on) (aux_in t f s j l r i) (s j 1 l)
+abbrev pub aux_by : Env → Rows → Own → ℕ → Route → Bool → ℕ → Option Input → Float
+aux_by t f s j r on l None = s j 1 l
+aux_by t f s j r on l (Some i) = cond (not (free_slew i.slew) && on) (aux_in t f s j l r i) (s j 1 l)
 
 -- the slews of route j, which is r, by whether they move in lane l: of its source and of its aux
 abbrev pub slew_by : Env → Rows → Own → ℕ → Route → Bool → ℕ → ℕ → Float

@@ -24,7 +24,7 @@ use config::{LANES, SLOTS, VOICES};
 use lane::View;
 use plan_slews::Motion;
 use plan_sum::{GROUPS, Ground, Job, Place, Reach};
-use state::{Aux, Input, Route, SignalPart};
+use state::{Input, Route, SignalPart};
 
 // ---- sixteen lanes
 
@@ -41,6 +41,7 @@ fn add_to(sums: &mut [f32], lane: usize, row: [f32; LANES])
 }
 
 // the row from `start` on
+// Not that of `plan_sweep`, which is not below.
 fn put_to(new: &mut [f32], start: usize, row: [f32; LANES])
     requires { start + lanes ≤ length new.old }
     ensures { Between start lanes (at row) new.old new.new }
@@ -68,14 +69,14 @@ fn input_place(
 }
 
 // the place of what an aux reads, where there is one
-fn aux_place(aux: Aux, view: View, held: &[f32], samples: &[f32], values: &[f32]) -> Place
+fn aux_place(aux: Option<Input>, view: View, held: &[f32], samples: &[f32], values: &[f32]) -> Place
     requires { Placed view }
     ensures { Inside result view.point.stride held.now samples.now values.now × ((t : Env) (f : Rows) (s : Own) (j : ℕ) (route : Route) (g b : List Float) → route.aux ≡ aux → Viewed t f s j view route held.now g b samples.now values.now → AuxStands t f s j aux result view.point.stride held.now samples.now values.now) }
 {
     let part = view.aux;
     match aux {
-        Aux::Missing => Place::Nowhere,
-        Aux::With(i) => input_place(i, view, part, 1, held, samples, values),
+        None => Place::Nowhere,
+        Some(i) => input_place(i, view, part, 1, held, samples, values),
     }
 }
 
@@ -214,8 +215,7 @@ pub fn mix_voice(
     let source = input_place(input, view, part, 0, held, samples, values);
     let with = aux_place(aux, view, held, samples, values);
     let n = view.point.stride / 16;
-    let mut g = 0usize;
-    while g < n {
+    for g in 0..n {
         let on = groups[g];
         mix_group(
             new,
@@ -235,7 +235,6 @@ pub fn mix_voice(
             samples,
             values,
         );
-        g += 1;
     }
 }
 
@@ -303,13 +302,7 @@ fn sum_slow(
 fn wide(voice: bool, route: bool, stride: usize) -> bool
     ensures { result ≡ true → (voice ≡ true) × (route ≡ true) × (stride / 16 * 16 ≡ stride) }
 {
-    if !voice {
-        return false;
-    }
-    if !route {
-        return false;
-    }
-    stride / 16 * 16 == stride
+    voice && route && stride / 16 * 16 == stride
 }
 
 // route j, which is neither plain nor idle, lane by lane
@@ -480,8 +473,7 @@ fn mix_all(
     let signals = job.signals;
     let parts = plan_sum::parts_of(signals);
     let first = plan.first;
-    let mut j = 0usize;
-    while j < count {
+    for j in 0..count {
         let i = plan_sum::route_index(first, j);
         let stored = routes[i];
         let route = plan_sum::route_or(first, j, stored);
@@ -496,7 +488,6 @@ fn mix_all(
         mix_route(
             new, sums, ground, reach, j, route, source, aux, held, globals, tables, samples, values,
         );
-        j += 1;
     }
 }
 
@@ -542,8 +533,7 @@ fn mix_frame(
     let signals = job.signals;
     let parts = plan_sum::parts_of(signals);
     let first = plan.first;
-    let mut j = 0usize;
-    while j < count {
+    for j in 0..count {
         let i = plan_sum::route_index(first, j);
         let stored = routes[i];
         let route = plan_sum::route_or(first, j, stored);
@@ -558,7 +548,6 @@ fn mix_frame(
         mix_route(
             new, sums, ground, reach, j, route, source, aux, held, globals, tables, samples, values,
         );
-        j += 1;
     }
 }
 

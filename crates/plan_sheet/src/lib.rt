@@ -50,8 +50,7 @@ pub fn sheet(
     ensures { result ≡ true → Sheet field steps.now offsets.now levels globals.now
         bases.now plans n numbers.new words.new }
 {
-    let mut d = 0usize;
-    while d < n {
+    for d in 0..n {
         let plan = plans[d];
         if !plan_sweep::is_swept(field, plan, steps) {
             return false;
@@ -60,7 +59,6 @@ pub fn sheet(
         let base = plan_sum::base_by(kind, plan.dest, levels, globals, bases);
         let offset = plan_sweep::offset_sum(offsets, plan.first, plan.count);
         put_plan(numbers, words, d, plan, base, base + offset);
-        d += 1;
     }
     true
 }

@@ -1,4 +1,5 @@
 -- New slews that are put where they lie are the slews of the plan. Assumes nothing.
+use Rattle.std.specs.Prelude.{Option, Some, None}
 use mathlib.Core.Path.{◌≡◌, refl, sym, ap, ◌∙◌}
 use mathlib.Core.Bool.{Bool, true, false, cond, ◌&&◌}
 use mathlib.Core.Logic.{inr, ⊎_elim}
@@ -12,11 +13,9 @@ use lib.ListN.{length, get_or}
 use lib.Ieee.{Float, nan}
 use Rattle.list.proofs.Rows.{row_inside}
 use Rattle.list.proofs.Elements.{get_or_past}
-use Rattle.state.specs.declared.Aux.{Aux}
-use Rattle.state.specs.declared.Aux.TheVariants as X
 use Rattle.state.specs.declared.Gain.TheVariants as G
 use Rattle.state.specs.declared.Read.TheVariants as D
-use Rattle.state.specs.declared.Slew.TheVariants as L
+use Rattle.state.specs.declared.Input.{Input}
 use Rattle.state.specs.declared.Route.{Route}
 use Rattle.state.specs.declared.State.{State}
 use Rattle.state_filled.specs.Filled.{no_route}
@@ -39,8 +38,8 @@ abbrev pub unread : Route
 unread =
     record {
       slot = 0;
-      source = record { read = D.Signal 0 false; bipolar = false; table = false; slew = L.Free };
-      aux = X.Missing;
+      source = record { read = D.Signal 0 false; bipolar = false; table = false; slew = None };
+      aux = None;
       aux_invert = false;
       bipolar = false;
       amount = G.Live;
@@ -160,9 +159,9 @@ module _ (st : State) (d : ℕ) (g : Own) (m : List Float) where
 
 -- ---- slews that stand still
 
-aux-stands : (t : Env) (x : Mix) (f : Rows) (s : Own) (j l : ℕ) (r : Route) (y : Aux) → aux_free y ≡ true → aux_slew t x f s j r l y ≡ s j 1 l
-aux-stands t x f s j l r X.Missing e = refl
-aux-stands t x f s j l r (X.With i) e = rw e
+aux-stands : (t : Env) (x : Mix) (f : Rows) (s : Own) (j l : ℕ) (r : Route) (y : Option Input) → aux_free y ≡ true → aux_slew t x f s j r l y ≡ s j 1 l
+aux-stands t x f s j l r None e = refl
+aux-stands t x f s j l r (Some i) e = rw e
 
 and_left : (a b : Bool) → a && b ≡ true → a ≡ true
 and_left true b e = refl

@@ -1,7 +1,6 @@
 -- New slews in a memory of their own, and put where they lie. Definitions only.
-use Rattle.std.specs.Prelude.{◌≡◌, Bool, true, false, cond, ◌&&◌, List, ℕ, zero, suc, ◌+◌, ◌*◌, ◌<◌, get_or, Float}
-use Rattle.state.specs.declared.Aux.{Aux}
-use Rattle.state.specs.declared.Aux.TheVariants as X
+use Rattle.std.specs.Prelude.{◌≡◌, Bool, true, false, cond, ◌&&◌, List, ℕ, zero, suc, ◌+◌, ◌*◌, ◌<◌, get_or, Float, Option, Some, None}
+use Rattle.state.specs.declared.Input.{Input}
 use Rattle.state.specs.declared.Route.{Route}
 use Rattle.state_filled.specs.Filled.{no_route}
 use Rattle.model.specs.Env.{Env, Rows, Own}
@@ -12,9 +11,9 @@ use Rattle.model.specs.Routes.{free_slew}
 use Rattle.model.specs.Tick.{fill_from, lanes_from, slew_after}
 
 -- the aux, where there is one, has no slew
-abbrev pub aux_free : Aux → Bool
-aux_free X.Missing = true
-aux_free (X.With i) = free_slew i.slew
+abbrev pub aux_free : Option Input → Bool
+aux_free None = true
+aux_free (Some i) = free_slew i.slew
 
 -- a route without slews
 abbrev pub still : Route → Bool

@@ -28,7 +28,7 @@ use config::{SLOTS, VOICES};
 use lane::View;
 use lane_input::Scene;
 use plan_sum::Job;
-use state::{Aux, Input, Route};
+use state::{Input, Route};
 use voice::Voices;
 
 // ---- rows put where they lie
@@ -68,10 +68,8 @@ fn put_whole(values: &mut [f32], start: usize, from: &[f32], at: usize, n: usize
     requires { (start + n ≤ length values.old) × (at + n ≤ length from.now) }
     ensures { values.new ≡ fill_from values.old start (lanes_from from.now at) n }
 {
-    let mut l = 0usize;
-    while l < n {
+    for l in 0..n {
         values[start + l] = from[at + l];
-        l += 1;
     }
 }
 
@@ -79,10 +77,8 @@ fn put_whole(values: &mut [f32], start: usize, from: &[f32], at: usize, n: usize
 fn put_each(values: &mut [f32], start: usize, from: &[f32], at: usize, n: usize)
     ensures { values.new ≡ fill_from values.old start (lanes_from from.now at) n }
 {
-    let mut l = 0usize;
-    while l < n {
+    for l in 0..n {
         put_lane(values, start, l, lane_input::lane_from(from, at, l));
-        l += 1;
     }
 }
 
@@ -101,11 +97,9 @@ pub fn hold_row(row: [f32; VOICES], min: f32, max: f32, n: usize) -> [f32; VOICE
     ensures { IsRow n (λ (l : ℕ). hold min max (get_or row l nan)) result }
 {
     let mut out = [0.0; VOICES];
-    let mut l = 0usize;
-    while l < n {
+    for l in 0..n {
         let x = row[l];
         out[l] = number::held(min, max, x);
-        l += 1;
     }
     out
 }
@@ -124,26 +118,14 @@ fn fresh_at(fresh: [bool; VOICES], lane: usize) -> bool
 pub fn starting(snap: bool, voice: bool, fresh: [bool; VOICES], lane: usize) -> bool
     ensures { (t : Env) (x : Mix) → t.snap ≡ snap → t.fresh ≡ fresh → x.voice ≡ voice → result ≡ starting t x lane }
 {
-    if !snap {
-        return false;
-    }
-    if !voice {
-        return false;
-    }
-    fresh_at(fresh, lane)
+    snap && voice && fresh_at(fresh, lane)
 }
 
 // Whether a lane keeps its number, by whether a voice starts there.
 pub fn kept(phase: usize, primed: bool, starts: bool) -> bool
     ensures { (t : Env) (x : Mix) (l : ℕ) → t.primed ≡ primed → starts ≡ starting t x l → result ≡ kept t phase x l }
 {
-    if phase == 0 {
-        return false;
-    }
-    if !primed {
-        return false;
-    }
-    !starts
+    phase != 0 && primed && !starts
 }
 
 // What a tick's new numbers go by, besides the sums: the phase, the plan's scope, and of the scene the voices that start.
@@ -236,11 +218,9 @@ fn to_each(tick: Tick, sums: [f32; VOICES], values: &[f32], start: usize, n: usi
     ensures { (t : Env) (x : Mix) (f : Rows) (s : Own) → Ticks t x tick → IsRow n (held_sum t f s x) sums → IsRow n (new_to t tick.phase x f s (lanes_from values.now start)) result }
 {
     let mut out = [0.0; VOICES];
-    let mut l = 0usize;
-    while l < n {
+    for l in 0..n {
         let sum = sums[l];
         out[l] = to_lane(tick, sum, lane_input::lane_from(values, start, l), l);
-        l += 1;
     }
     out
 }
@@ -282,12 +262,10 @@ fn from_each(
     ensures { (t : Env) (x : Mix) (f : Rows) (s : Own) → Ticks t x tick → IsRow n (held_sum t f s x) sums → IsRow n (new_from t tick.phase x f s (lanes_from values.now start) (lanes_from values.now from)) result }
 {
     let mut out = [0.0; VOICES];
-    let mut l = 0usize;
-    while l < n {
+    for l in 0..n {
         let sum = sums[l];
         let old = lane_input::lane_from(values, start, l);
         out[l] = from_lane(tick, sum, old, lane_input::lane_from(values, from, l), l);
-        l += 1;
     }
     out
 }
@@ -339,17 +317,16 @@ pub fn source_row(
     let n = view.point.stride;
     let voice = route.voice;
     let mut out = [0.0; VOICES];
-    let mut l = 0usize;
-    while l < n {
+    for l in 0..n {
         let m = moves(motion, voice, l);
         let e = snap(motion, voice, l);
         out[l] = lane::source_after(route, view, m, e, l, held, globals, tables, samples, values);
-        l += 1;
     }
     out
 }
 
 // The slew of its aux.
+// Not one with `source_row` over a closure: its clause and proof would be longer, in a hot loop.
 pub fn aux_row(
     route: Route,
     view: View,
@@ -366,12 +343,10 @@ pub fn aux_row(
     let n = view.point.stride;
     let voice = route.voice;
     let mut out = [0.0; VOICES];
-    let mut l = 0usize;
-    while l < n {
+    for l in 0..n {
         let m = moves(motion, voice, l);
         let e = snap(motion, voice, l);
         out[l] = lane::aux_after(route, view, m, e, l, held, globals, tables, samples, values);
-        l += 1;
     }
     out
 }
@@ -382,12 +357,12 @@ pub fn aux_row(
 pub const NEW: usize = 8192;
 
 // whether an aux, where there is one, has no slew
-pub fn aux_free(aux: Aux) -> bool
+pub fn aux_free(aux: Option<Input>) -> bool
     ensures { result ≡ aux_free aux }
 {
     match aux {
-        Aux::Missing => true,
-        Aux::With(i) => input_free(i),
+        None => true,
+        Some(i) => input_free(i),
     }
 }
 
@@ -462,13 +437,11 @@ pub fn put_new(
     requires { (stride ≤ 64) × (chunks ≤ 130) × (plans ≤ slots) × (first + n ≤ slots) }
     ensures { values.new ≡ put_new stride chunks plans first routes new.now n values.old }
 {
-    let mut j = 0usize;
-    while j < n {
+    for j in 0..n {
         let k = first + j;
         let route = routes[k];
         let own = lane::own_start(stride, chunks, plans, k);
         put_route(values, stride, route, own, new, j);
-        j += 1;
     }
 }
 

@@ -1,4 +1,5 @@
 -- What a job's routes are, and that their views show what the environment has. Assumes nothing.
+use Rattle.std.specs.Prelude.{Option, Some, None}
 use mathlib.Core.Path.{◌≡◌, refl, sym, ap, ◌∙◌}
 use mathlib.Core.Bool.{Bool, true, false, cond}
 use mathlib.Core.Logic.{⊎_elim}
@@ -11,13 +12,12 @@ use lib.ListN.{length, get_or}
 use lib.Ieee.{Float}
 use Rattle.config.specs.Sizes.{slots, most_sources}
 use Rattle.list.proofs.Elements.{get_or-inside, get_or_past}
-use Rattle.state.specs.declared.Aux.{Aux}
-use Rattle.state.specs.declared.Aux.TheVariants as X
 use Rattle.state.specs.declared.Base.{Base}
 use Rattle.state.specs.declared.Base.TheVariants as B
 use Rattle.state.specs.declared.Gains.{Gains}
 use Rattle.state.specs.declared.Read.{Read}
 use Rattle.state.specs.declared.Read.TheVariants as D
+use Rattle.state.specs.declared.Input.{Input}
 use Rattle.state.specs.declared.Route.{Route}
 use Rattle.state.specs.declared.SignalPart.{SignalPart}
 use Rattle.state.specs.declared.Signals.{Signals}
@@ -115,9 +115,9 @@ part-found s (D.Fed p voice) long e = e ∙ get_or_past s.part most_sources no_p
 part-found s D.Constant long e = e ∙ get_or_past s.part most_sources no_part (omega arith)
 part-found s D.RouteRandom long e = e ∙ get_or_past s.part most_sources no_part (omega arith)
 
-aux-found : (s : Signals) (aux : Aux) {r : SignalPart} → length s.part ≡ most_sources → r ≡ get_or s.part (aux_key aux) no_part → r ≡ aux_part s aux
-aux-found s X.Missing long e = e ∙ get_or_past s.part most_sources no_part (omega arith)
-aux-found s (X.With i) long e = part-found s i.read long e
+aux-found : (s : Signals) (aux : Option Input) {r : SignalPart} → length s.part ≡ most_sources → r ≡ get_or s.part (aux_key aux) no_part → r ≡ aux_part s aux
+aux-found s None long e = e ∙ get_or_past s.part most_sources no_part (omega arith)
+aux-found s (Some i) long e = part-found s i.read long e
 
 module _ {w : Job} {g : Ground} {routes : List Route} {parts : List SignalPart} {first count : ℕ} (k : From w g routes parts first count) where
   at_key : (key n i : ℕ) (d : SignalPart) {r : SignalPart} → length parts ≡ most_sources → key ≡ n → (key < most_sources → i ≡ key) → r ≡ cond (ltb key most_sources) (get_or parts i d) no_part

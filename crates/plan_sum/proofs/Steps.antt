@@ -8,11 +8,12 @@ use native.Mathlib.Decide.{ℕ_discrete}
 use native.Mathlib.Nat.{not-suc-le-zero}
 use native.Mathlib.Omega.{arith}
 use lib.Ieee.{Float}
+use Rattle.std.specs.Prelude.{Option, None, Some}
 use Rattle.number.specs.Number.{zero32, plus, times}
 use Rattle.state.specs.declared.Gains.{Gains}
 use Rattle.state.specs.declared.Route.{Route}
 use Rattle.model.specs.Env.{Env, Rows, Own}
-use Rattle.model.specs.Lanes.{Lane, lane, nowhere, in_group, lane_if, addend, sounding, in_span}
+use Rattle.model.specs.Lanes.{in_group, lane_if, addend, sounding, in_span}
 use Rattle.model.specs.Mix.{Mix}
 use Rattle.model.specs.RouteValue.{raw_in, route_value, is_zero, idle, plain}
 use Rattle.model.specs.Sums.{base_in, offset_step, offsets, some_plain, all_plain, has_plain, scaled_gain, plain_step, plains, add_lane, other_step, others, begun, tick_sum, audio_begun, audio_sum}
@@ -230,9 +231,9 @@ pub other-idle : (t : Env) (f : Rows) (s : Own) (x : Mix) (j l : ℕ) (a : Float
     → d ≡ idle t r → d ≡ true → a ≡ other_step t f s x j l (x.route j) a
 other-idle t f s x j l a q e h i k = rw (q, sym e ∙ h, sym i ∙ k)
 
-same-lane : (t : Env) (f : Rows) (s s' : Own) (j : ℕ) (r : Route) (a : Float) (z : Lane) → ((l : ℕ) → route_value t f s' j l r ≡ route_value t f s j l r) → add_lane t f s' j r a z ≡ add_lane t f s j r a z
-same-lane t f s s' j r a (lane l) e = ap (plus a) (e l)
-same-lane t f s s' j r a nowhere e = refl
+same-lane : (t : Env) (f : Rows) (s s' : Own) (j : ℕ) (r : Route) (a : Float) (z : Option ℕ) → ((l : ℕ) → route_value t f s' j l r ≡ route_value t f s j l r) → add_lane t f s' j r a z ≡ add_lane t f s j r a z
+same-lane t f s s' j r a (Some l) e = ap (plus a) (e l)
+same-lane t f s s' j r a None e = refl
 
 left : (on off : Bool) (a new : Float) → on ≡ false → off ≡ false → new ≡ cond (on || off) a new
 left on off a new e d = rw (e, d)
@@ -285,9 +286,14 @@ others-next t f s x l j a v u e k = k ∙ ap (other_step t f s x j l (x.route j)
 pub begun-bare : (t : Env) (f : Rows) (s : Own) (x : Mix) (l : ℕ) {b : Bool} {v base : Float} → b ≡ has_plain t x → not b ≡ true → v ≡ base → base ≡ base_in t x → v ≡ begun t f s x l
 begun-bare t f s x l e h k q = rw (was-false e h) (k ∙ q)
 
-pub begun-plain : (t : Env) (f : Rows) (s : Own) (x : Mix) (l : ℕ) {b : Bool} {v a base : Float} → b ≡ has_plain t x → not b ≡ false → v ≡ cond (in_span t l) (plains t f s x l x.count) a
-    → a ≡ base → base ≡ base_in t x → v ≡ begun t f s x l
-begun-plain t f s x l e h k q p = rw (was-true e h) (k ∙ ap (λ (z : Float). cond (in_span t l) (plains t f s x l x.count) z) (q ∙ p))
+-- over the base, audio begins as a tick does
+over : (a b : Bool) (p o z : Float) → o ≡ z → cond a (cond b p o) z ≡ cond (a && b) p z
+over true true p o z e = refl
+over true false p o z e = e
+over false b p o z e = refl
+
+pub begun-over : (t : Env) (f : Rows) (s : Own) (x : Mix) (l : ℕ) {v old base : Float} → v ≡ audio_begun t f s x old l → old ≡ base → base ≡ base_in t x → v ≡ begun t f s x l
+begun-over t f s x l {v} {old} k q p = k ∙ over (has_plain t x) (in_span t l) (plains t f s x l x.count) old (base_in t x) (q ∙ p)
 
 pub audio-bare : (t : Env) (f : Rows) (s : Own) (x : Mix) (old : Float) (l : ℕ) {b : Bool} {v base : Float} → b ≡ has_plain t x → not b ≡ true → v ≡ base → base ≡ base_in t x
     → v ≡ audio_begun t f s x old l

@@ -1,10 +1,9 @@
 -- What the routes of a job are worked out from, the lanes that they are added in, and where a plain route's numbers stand. Definitions only.
-use Rattle.std.specs.Prelude.{◌≡◌, false, cond, ◌&&◌, List, ℕ, ◌+◌, ◌/◌, ◌≤◌, ◌<◌, ltb, leb, length, get_or, Float}
+use Rattle.std.specs.Prelude.{◌≡◌, false, cond, ◌&&◌, List, ℕ, ◌+◌, ◌/◌, ◌≤◌, ◌<◌, ltb, leb, length, get_or, Float, Option, Some, None}
 use Rattle.config.specs.Sizes.{slots, most_sources, lanes}
-use Rattle.state.specs.declared.Aux.{Aux}
-use Rattle.state.specs.declared.Aux.TheVariants as X
 use Rattle.state.specs.declared.Read.{Read}
 use Rattle.state.specs.declared.Read.TheVariants as D
+use Rattle.state.specs.declared.Input.{Input}
 use Rattle.state.specs.declared.Route.{Route}
 use Rattle.state.specs.declared.SignalPart.{SignalPart}
 use Rattle.state_filled.specs.Filled.{no_route}
@@ -56,9 +55,9 @@ part_key (D.Fed e voice) = most_sources
 part_key D.Constant = most_sources
 part_key D.RouteRandom = most_sources
 
-abbrev pub aux_key : Aux → ℕ
-aux_key X.Missing = most_sources
-aux_key (X.With i) = part_key i.read
+abbrev pub aux_key : Option Input → ℕ
+aux_key None = most_sources
+aux_key (Some i) = part_key i.read
 
 -- where the own rows of route j start, where there is such a route
 abbrev pub own_by : Ground → ℕ → ℕ

@@ -12,7 +12,6 @@ ghost use Rattle.model.specs.Lanes.{any_from, group_of, in_group, addend, in_spa
 ghost use Rattle.model.specs.Mix.{Mix};
 ghost use Rattle.model.specs.RouteValue.{raw_in, route_value, plain};
 ghost use Rattle.model.specs.Sums.{base_in, offsets, plain_step, plains, add_lane, other_step, begun, audio_begun};
-ghost use Rattle.lane_input.specs.Lane.{lane_of};
 ghost use Rattle.lane_input.specs.Reads.{Works, part_for, point_of};
 ghost use Rattle.lane.specs.View.{most_values, Placed, aux_part, Viewed};
 ghost use Rattle.plan_sum.specs.Job.{AreSimple, Bounded, lane_count, slot_gain, base_by, IsScene, IsJob, Mixes, Shown};
@@ -20,8 +19,8 @@ ghost use Rattle.plan_sum.specs.Ground.{Based, ground_of, Chosen, part_key, aux_
 
 use config::{LANES, SLOTS, SOURCES, VOICES};
 use lane::View;
-use lane_input::{Lane, Point, Scene};
-use state::{Aux, Base, Gain, Gains, Input, Plan, Read, Route, SignalPart, Signals, Slew};
+use lane_input::{Point, Scene};
+use state::{Base, Gain, Gains, Input, Plan, Read, Route, SignalPart, Signals};
 use voice::Voices;
 
 // What the sum of a destination is worked out from at one frame, besides the lent numbers: its plan, the routes, scene and signals, how many chunks a plan has
@@ -57,6 +56,7 @@ pub struct Span {
 }
 
 // What the plain routes come to: whether there is one, whether all are plain, and the sum of their offsets.
+// No Option: the sum holds whether there is one or not.
 #[derive(Clone, Copy)]
 pub struct Totals {
     pub some: bool,
@@ -65,6 +65,7 @@ pub struct Totals {
 }
 
 // Where the numbers that a route reads stand, one a lane: from there on in the held numbers, the values or the samples.
+// No Option of three places: each match would hold a second one.
 #[derive(Clone, Copy)]
 pub enum Place {
     Held(usize),
@@ -109,12 +110,12 @@ fn no_route() -> Route
         read: Read::Constant,
         bipolar: false,
         table: false,
-        slew: Slew::Free,
+        slew: None,
     };
     Route {
         slot: 0,
         source,
-        aux: Aux::Missing,
+        aux: None,
         aux_invert: false,
         bipolar: false,
         amount: Gain::Live,
@@ -205,12 +206,12 @@ pub fn source_key(route: Route) -> usize
     input_key(source)
 }
 
-fn aux_key(aux: Aux) -> usize
+fn aux_key(aux: Option<Input>) -> usize
     ensures { result ≡ aux_key aux }
 {
     match aux {
-        Aux::Missing => SOURCES,
-        Aux::With(i) => input_key(i),
+        None => SOURCES,
+        Some(i) => input_key(i),
     }
 }
 
@@ -400,8 +401,7 @@ pub fn totals_of(job: Job) -> Totals
         all: true,
         offset: 0.0,
     };
-    let mut j = 0usize;
-    while j < count {
+    for j in 0..count {
         let i = route_index(first, j);
         let stored = routes[i];
         let route = route_or(first, j, stored);
@@ -411,7 +411,6 @@ pub fn totals_of(job: Job) -> Totals
         let part = part_or(key, kept);
         let next = with_route(ground, route, part, out);
         out = next;
-        j += 1;
     }
     out
 }
@@ -437,30 +436,20 @@ pub fn span_first(active: [bool; VOICES]) -> usize
     64
 }
 
-// what is left of n after k
-fn rest(n: usize, k: usize) -> usize
-    ensures { result ≡ n - k }
-{
-    if n <= k {
-        return 0;
-    }
-    n - k
-}
-
 // Where the last group with an active voice ends.
 pub fn span_end(active: [bool; VOICES], stride: usize) -> usize
     ensures { (l : ℕ) → l < 64 → ltb l result ≡ any_from active (group_of l) (stride - group_of l) }
 {
-    if lane_input::any_from(active, 48, rest(stride, 48)) {
+    if lane_input::any_from(active, 48, stride.saturating_sub(48)) {
         return 64;
     }
-    if lane_input::any_from(active, 32, rest(stride, 32)) {
+    if lane_input::any_from(active, 32, stride.saturating_sub(32)) {
         return 48;
     }
-    if lane_input::any_from(active, 16, rest(stride, 16)) {
+    if lane_input::any_from(active, 16, stride.saturating_sub(16)) {
         return 32;
     }
-    if lane_input::any_from(active, 0, rest(stride, 0)) {
+    if lane_input::any_from(active, 0, stride.saturating_sub(0)) {
         return 16;
     }
     0
@@ -506,10 +495,8 @@ fn span_row(x: f32, span: Span, row: [f32; VOICES]) -> [f32; VOICES]
 {
     let end = span.end;
     let mut out = row;
-    let mut l = span.first;
-    while l < end {
+    for l in span.first..end {
         out[l] = x;
-        l += 1;
     }
     out
 }
@@ -521,12 +508,10 @@ fn add_from(start: usize, gain: f32, span: Span, row: [f32; VOICES], xs: &[f32])
 {
     let end = span.end;
     let mut out = row;
-    let mut l = span.first;
-    while l < end {
+    for l in span.first..end {
         let a = out[l];
         let raw = xs[start + l];
         out[l] = a + raw * gain;
-        l += 1;
     }
     out
 }
@@ -548,12 +533,10 @@ fn add_raw(
 {
     let end = span.end;
     let mut out = row;
-    let mut l = span.first;
-    while l < end {
+    for l in span.first..end {
         let a = out[l];
         let raw = lane::raw_in(route, view, l, held, globals, samples, values);
         out[l] = a + raw * gain;
-        l += 1;
     }
     out
 }
@@ -758,8 +741,7 @@ fn add_plains(
     let parts = parts_of(signals);
     let first = plan.first;
     let mut out = row;
-    let mut j = 0usize;
-    while j < count {
+    for j in 0..count {
         let i = route_index(first, j);
         let stored = routes[i];
         let route = route_or(first, j, stored);
@@ -771,7 +753,6 @@ fn add_plains(
             ground, span, j, route, part, out, held, globals, samples, values,
         );
         out = next;
-        j += 1;
     }
     out
 }
@@ -820,7 +801,7 @@ fn lane_value(
 
 // a with the route's value in the lane that was found, where one was
 fn add_lane(
-    found: Lane,
+    found: Option<usize>,
     snap: bool,
     fresh: [bool; VOICES],
     route: Route,
@@ -833,15 +814,15 @@ fn add_lane(
     values: &[f32],
 ) -> f32
     requires { Placed view }
-    ensures { (t : Env) (f : Rows) (s : Own) (j : ℕ) → t.snap ≡ snap → t.fresh ≡ fresh → Viewed t f s j view route held.now globals.now tables.now samples.now values.now → result ≡ add_lane t f s j route a (lane_of found) }
+    ensures { (t : Env) (f : Rows) (s : Own) (j : ℕ) → t.snap ≡ snap → t.fresh ≡ fresh → Viewed t f s j view route held.now globals.now tables.now samples.now values.now → result ≡ add_lane t f s j route a found }
 {
     match found {
-        Lane::At(lane) => {
+        Some(lane) => {
             a + lane_value(
                 snap, fresh, route, view, lane, held, globals, tables, samples, values,
             )
         }
-        Lane::Nowhere => a,
+        None => a,
     }
 }
 
@@ -901,14 +882,12 @@ fn own_lanes(
     let snap = reach.snap;
     let fresh = reach.fresh;
     let mut out = row;
-    let mut l = 0usize;
-    while l < n {
+    for l in 0..n {
         let a = out[l];
         let on = groups[l / LANES];
         out[l] = add_own(
             on, snap, fresh, route, view, l, a, held, globals, tables, samples, values,
         );
-        l += 1;
     }
     out
 }
@@ -921,12 +900,10 @@ fn same_lanes(reach: Reach, x: f32, row: [f32; VOICES]) -> [f32; VOICES]
     let n = reach.lanes;
     let groups = reach.groups;
     let mut out = row;
-    let mut l = 0usize;
-    while l < n {
+    for l in 0..n {
         let a = out[l];
         let on = groups[l / LANES];
         out[l] = add_same(on, a, x);
-        l += 1;
     }
     out
 }
@@ -1088,11 +1065,9 @@ pub fn simples_of(routes: [Route; SLOTS]) -> [bool; SLOTS]
     ensures { AreSimple routes result }
 {
     let mut out = [false; SLOTS];
-    let mut i = 0usize;
-    while i < SLOTS {
+    for i in 0..SLOTS {
         let route = routes[i];
         out[i] = route.simple;
-        i += 1;
     }
     out
 }
@@ -1101,40 +1076,16 @@ pub fn simples_of(routes: [Route; SLOTS]) -> [bool; SLOTS]
 pub fn some_simple(simples: [bool; SLOTS], first: usize, count: usize) -> bool
     ensures { result ≡ false → (j : ℕ) → j < count → get_or simples (first + j) false ≡ false }
 {
-    let mut j = 0usize;
-    while j < count {
+    for j in 0..count {
         let i = route_index(first, j);
         if simples[i] {
             return true;
         }
-        j += 1;
     }
     false
 }
 
 // ---- the sum
-
-// what the others are added to at a tick, where a route may be plain
-fn tick_plains(
-    job: Job,
-    base: f32,
-    held: &[f32],
-    globals: &[f32],
-    samples: &[f32],
-    values: &[f32],
-) -> [f32; VOICES]
-    requires { Bounded job }
-    ensures { (t : Env) (f : Rows) (s : Own) (x : Mix) → Mixes t f s x job held.now globals.now samples.now values.now → base ≡ base_in t x → (l : ℕ) → l < lane_count job → at result l ≡ begun t f s x l }
-{
-    let row = [base; VOICES];
-    let all = totals_of(job);
-    let some = all.some;
-    let offset = all.offset;
-    if !some {
-        return row;
-    }
-    plain_row(job, base + offset, row, held, globals, samples, values)
-}
 
 // what the others are added to at a tick
 pub fn tick_begun(
@@ -1151,10 +1102,11 @@ pub fn tick_begun(
     if !job.simple {
         return [base; VOICES];
     }
-    tick_plains(job, base, held, globals, samples, values)
+    let row = [base; VOICES];
+    audio_plains(job, base, row, held, globals, samples, values)
 }
 
-// what the others are added to in audio, where `old` stands in the row and a route may be plain
+// what the others are added to, where `old` stands in the row and a route may be plain: at a tick the base does
 fn audio_plains(
     job: Job,
     base: f32,

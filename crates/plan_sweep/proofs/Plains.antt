@@ -1,4 +1,5 @@
 -- A plan of which every route is plain: its slews stand still, and its numbers are the sums of its products. Assumes nothing.
+use Rattle.std.specs.Prelude.{Option, Some, None}
 use mathlib.Core.Path.{◌≡◌, refl, sym, ap, ap₂, ◌∙◌}
 use mathlib.Core.Bool.{Bool, true, false, not, cond, ◌&&◌, ◌||◌}
 use mathlib.Core.Logic.{inr}
@@ -9,10 +10,9 @@ use borrow.Author.Tests.{le-leb, lt-leb, lt-ltb, le-ltb}
 use lib.Dec.{leb, ltb}
 use lib.Ieee.{Float}
 use Rattle.number.specs.Number.{plus, times, hold}
-use Rattle.state.specs.declared.Aux.{Aux}
-use Rattle.state.specs.declared.Aux.TheVariants as X
 use Rattle.state.specs.declared.Base.{Base}
 use Rattle.state.specs.declared.Base.TheVariants as B
+use Rattle.state.specs.declared.Input.{Input}
 use Rattle.state.specs.declared.Route.{Route}
 use Rattle.state.specs.declared.State.{State}
 use Rattle.model.specs.Audio.{bounded, whole_plain, new_audio}
@@ -63,9 +63,9 @@ module _ (t : Env) (x : Mix) (f : Rows) (s : Own) where
   unfolding source_after
   source_stays j l h = rw h (and-off (not (free_slew (x.route j).source.slew)) (source_in t f s j l (x.route j)) (s j 0 l))
 
-  aux-is : (j l : ℕ) (r : Route) (a : Aux) → plain t x.voice r ≡ true → aux_slew t x f s j r l a ≡ s j 1 l
-  aux-is j l r X.Missing h = refl
-  aux-is j l r (X.With i) h = rw h (and-off (not (free_slew i.slew)) (aux_in t f s j l r i) (s j 1 l))
+  aux-is : (j l : ℕ) (r : Route) (a : Option Input) → plain t x.voice r ≡ true → aux_slew t x f s j r l a ≡ s j 1 l
+  aux-is j l r None h = refl
+  aux-is j l r (Some i) h = rw h (and-off (not (free_slew i.slew)) (aux_in t f s j l r i) (s j 1 l))
 
   aux-stays : (j l : ℕ) → plain t x.voice (x.route j) ≡ true → aux_after t x f s j l ≡ s j 1 l
   unfolding aux_after

@@ -15,7 +15,7 @@ use config::{LANES, SIGNAL_STRIDE, SLOTS, SOURCES, VOICES};
 use state::{Gains, Plan, Read, Route, SignalPart, Signals};
 
 // What the rows of a plan are swept by: what the routes are added to, whether the bounds hold anything, and they; which routes; the first lane of the span and its
-// groups of 16, and the lanes of a row.
+// groups of 16, and the lanes of a row. The bounds are no Option: they stay where `bound` alone is taken back.
 #[derive(Clone, Copy)]
 pub struct Pass {
     pub begun: f32,
@@ -134,14 +134,12 @@ fn added(
     let first = pass.first;
     let count = pass.count;
     let mut out = acc;
-    let mut j = 0usize;
-    while j < count {
+    for j in 0..count {
         let i = first + j;
         let p = place(starts[i], steps[i], frame, lane);
         let gain = gains[i];
         let next = step(out, samples, p, gain);
         out = next;
-        j += 1;
     }
     out
 }
@@ -149,6 +147,7 @@ fn added(
 // ---- rows
 
 // the sixteen numbers from p on
+// Not that of `lanes16`, which is not below: the loop has to be a part of its caller (docs/SPEED.md).
 fn sixteen(xs: &[f32], p: usize) -> [f32; LANES]
     requires { p + lanes ≤ length xs.now }
     ensures { (l : ℕ) → l < lanes → at result l ≡ at xs.now (p + l) }
@@ -210,13 +209,11 @@ fn some_row(
 {
     let from = pass.from;
     let groups = pass.groups;
-    let mut g = 0usize;
-    while g < groups {
+    for g in 0..groups {
         let lane = from + g * 16;
         group(
             audio, over, pass, starts, steps, gains, samples, frame, start, lane,
         );
-        g += 1;
     }
 }
 
@@ -255,8 +252,7 @@ fn some_rows(
     ensures { audio.new ≡ some_rows over starts.now steps.now gains.now samples.now pass 0 frame len audio.old }
 {
     let width = pass.width;
-    let mut n = 0usize;
-    while n < len {
+    for n in 0..len {
         let at = n * width;
         some_row(
             audio,
@@ -269,7 +265,6 @@ fn some_rows(
             frame + n,
             at,
         );
-        n += 1;
     }
 }
 
@@ -341,12 +336,10 @@ fn four_row(
     requires { UpTo (further_of p (groups * lanes)) (length xs.now) × (start + (groups * lanes) ≤ length audio.old) }
     ensures { audio.new ≡ fill_from audio.old start (λ (l : ℕ). four_at xs.now p g l (start_at over x audio.old (start + l))) (groups * lanes) }
 {
-    let mut k = 0usize;
-    while k < groups {
+    for k in 0..groups {
         let o = k * 16;
         let q = further(p, o);
         four_group(audio, over, x, start + o, xs, q, g);
-        k += 1;
     }
 }
 
@@ -409,8 +402,7 @@ fn four_rows(
     let g = levels_of(gains, pass.first);
     let from = pass.from;
     let width = pass.width;
-    let mut n = 0usize;
-    while n < len {
+    for n in 0..len {
         let p = places_at(s, t, frame + n, from);
         four_row(
             audio,
@@ -422,7 +414,6 @@ fn four_rows(
             p,
             g,
         );
-        n += 1;
     }
 }
 
@@ -469,6 +460,7 @@ fn most_rows(
     ensures { (result < pass.count) × (audio.new ≡ swept_rows starts.now steps.now gains.now samples.now (head_of pass result) 0 frame len audio.old) }
 {
     let mut j = 0usize;
+    // Not a for over step_by(4): the first route that is left is wanted after the loop.
     while j + 4 < pass.count {
         four_rows(
             audio,
@@ -642,8 +634,7 @@ pub fn lead_routes(
     let amount = levels.amount;
     let output = levels.output;
     let len = samples.len();
-    let mut i = 0usize;
-    while i < n {
+    for i in 0..n {
         let route = routes[i];
         let key = route_key(route);
         let part = parts[plan_sum::part_index(key)];
@@ -653,7 +644,6 @@ pub fn lead_routes(
         steps[i] = lead_step(route, key, part, stride, up_to, len);
         gains[i] = route.scale * gain;
         offsets[i] = route.offset * gain;
-        i += 1;
     }
 }
 
@@ -697,6 +687,7 @@ pub fn leads_of(
 // ---- plans that are swept
 
 // What the plans of a chunk are swept by: whether a voice is active, the lane stride and the frames, and the active span: its first lane and its groups of 16.
+// No Option: the numbers hold and are read whether `on` or not.
 #[derive(Clone, Copy)]
 pub struct Field {
     pub on: bool,
@@ -710,10 +701,7 @@ pub struct Field {
 fn field_on(sounds: bool, lanes: usize) -> bool
     ensures { result ≡ true → (sounds ≡ true) × (lanes / 16 * 16 ≡ lanes) }
 {
-    if !sounds {
-        return false;
-    }
-    lanes / 16 * 16 == lanes
+    sounds && lanes / 16 * 16 == lanes
 }
 
 // The field of those voices.
@@ -742,13 +730,11 @@ fn all_led(steps: &[usize], first: usize, count: usize) -> bool
     requires { first + count ≤ length steps.now }
     ensures { result ≡ true → (j : ℕ) → j < count → 0 < get_or steps.now (first + j) 0 }
 {
-    let mut j = 0usize;
-    while j < count {
+    for j in 0..count {
         let i = first + j;
         if steps[i] == 0 {
             return false;
         }
-        j += 1;
     }
     true
 }
@@ -759,11 +745,9 @@ pub fn offset_sum(offsets: &[f32], first: usize, count: usize) -> f32
     ensures { result ≡ offset_sum offsets.now first count }
 {
     let mut out = 0.0f32;
-    let mut j = 0usize;
-    while j < count {
+    for j in 0..count {
         let i = first + j;
         out = out + offsets[i];
-        j += 1;
     }
     out
 }

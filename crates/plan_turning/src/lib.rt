@@ -102,12 +102,10 @@ pub fn bases_of(
     ensures { (length result ≡ slots) × ((d : ℕ) → d < n → at result d ≡ base_by levels globals.now bases.now (get_or plans d no_plan).dest (get_or plans d no_plan).base) }
 {
     let mut out = [0.0f32; SLOTS];
-    let mut d = 0usize;
-    while d < n {
+    for d in 0..n {
         let plan = plans[d];
         let base = plan.base;
         out[d] = plan_sum::base_by(base, plan.dest, levels, globals, bases);
-        d += 1;
     }
     out
 }
@@ -119,11 +117,9 @@ fn fill(rows: &mut [f32], start: usize, n: usize, x: f32)
     requires { start + n ≤ length rows.old }
     ensures { rows.new ≡ fill_from rows.old start (λ (l : ℕ). x) n }
 {
-    let mut l = 0usize;
-    while l < n {
+    for l in 0..n {
         let i = start + l;
         rows[i] = x;
-        l += 1;
     }
 }
 
@@ -157,12 +153,10 @@ fn lower(values: &mut [f32], from: usize, n: usize)
     ensures { values.new ≡ fill_from values.old from (lanes_from values.old (from + n)) n }
 {
     let to = from + n;
-    let mut l = 0usize;
-    while l < n {
+    for l in 0..n {
         let i = from + l;
         let k = to + l;
         values[i] = values[k];
-        l += 1;
     }
 }
 
@@ -310,8 +304,7 @@ fn turns_from(
     ensures { (first ≤ result) × (result ≤ round.control) × ((st : State) (t : Env) (m : List Float) → Prepared st t round plans bases.now samples.now starts.now steps.now gains.now offsets.now → values.old ≡ turns st t round.tick.phase first m → values.new ≡ turns st t round.tick.phase result m) }
 {
     let field = round.field;
-    let mut d = first;
-    while d < round.control {
+    for d in first..round.control {
         let plan = plans[d];
         let from = plan_from(field.stride, round.chunks, d);
         if !is_turned(field, plan, steps, from, values.len()) {
@@ -320,9 +313,8 @@ fn turns_from(
         turn(
             values, round, plan, from, bases[d], starts, steps, gains, offsets, samples,
         );
-        d += 1;
     }
-    d
+    round.control
 }
 
 // The same; none is swept where the field is off.

@@ -3,10 +3,10 @@ use mathlib.Core.Path.{◌≡◌, refl, sym, ap, ◌∙◌}
 use mathlib.Core.Logic.{◌≢◌}
 use mathlib.Core.Bool.{Bool, true, false, cond, not, ◌&&◌, ◌||◌}
 use mathlib.Core.List.{List, [], ◌∷◌, ◌++◌}
-use Prim.Native.Nat.{ℕ, zero, suc, ◌≤◌, min}
+use Prim.Native.Nat.{ℕ, zero, suc, ◌≤◌, ◌<◌, min}
 use native.Mathlib.Omega.{arith}
 use borrow.Author.Tests.{ne_eqb, ltb-false}
-use lib.Dec.{ltb, eqb}
+use lib.Dec.{ltb}
 use lib.ListN.{length}
 use lib.Ieee.{Float}
 use Rattle.config.specs.Sizes.{slots, most_voices, most_frames}
@@ -14,17 +14,19 @@ use Rattle.config.specs.Configuration.{config_rows, config_code}
 use Rattle.config.proofs.Accepted.{Accepted, accepted}
 use Rattle.list.proofs.Bools.{or-false-l, or-false-r}
 use Rattle.refusal.specs.Judge.{first_of, judged, ◌when◌}
-use Rattle.refusal.proofs.Laws.{first_of-zero, first_of-code, judged-append, judged-row, judged-taken, judged-passed, judged-none}
+use Rattle.refusal.proofs.Laws.{first_of-zero, first_of-code, judged-append, judged-row, judged-taken, judged-passed, judged-none, number-above}
 use Rattle.number.specs.Number.{one32}
 use Rattle.state.specs.declared.Program.{Program}
-use Rattle.state.specs.declared.Compiled.{Compiled}
+use Rattle.std.specs.Prelude.{Ok, Err}
+use Rattle.refusal.specs.Refusal.{number_of}
+use Rattle.refusal.specs.declared.Refusal.{Refusal}
+use Rattle.program.specs.Answers.{compiled_said}
 use Rattle.state.specs.declared.Wiring.{Wiring}
 use Rattle.slots_tables.specs.Tables.{tables_need, with_tables, names_table}
-use Rattle.model.specs.Need.{values_need, audio_need}
 use Rattle.model.specs.Wiring.{candidates}
 use Rattle.model.specs.Feeds.{plan_order}
 use Rattle.model.specs.Plans.{compiled}
-use Rattle.model.specs.Compile.{program_values, program_audio, empty_of, Memories, numbers_allowed, tables_short, memory_short, compile_rows, zeroed, made_in, made_by, compile, Made}
+use Rattle.model.specs.Compile.{Compiled, answered_by, program_values, program_audio, empty_of, Memories, numbers_allowed, tables_short, memory_short, compile_rows, zeroed, made_in, made_by, compile}
 use Rattle.model.proofs.Candidates.{candidates-most}
 use Rattle.model.proofs.ProgramLayout.{plans-most}
 use Rattle.program.specs.Steps.{early_code, held_values, held_audio, copied}
@@ -32,6 +34,16 @@ use Rattle.program.specs.Steps.{early_code, held_values, held_audio, copied}
 -- a refusal with its number
 abbrev pub refusal : ℕ → Compiled
 refusal code = record { code = code; program = empty_of (record { sample_rate = one32; max_frames = 0; voices = 0 }) }
+
+-- an answer by its number
+pub answered-refused : (r : Refusal) (k : ℕ) (p : Program) → number_of r ≡ k → compiled_said (Err r) ≡ answered_by k p
+answered-refused r k p e =
+    let above : 0 < number_of r = number-above r in
+    let ne : number_of r ≢ 0 = λ z. omega (arith, z) in
+    rw (← e, ne_eqb (number_of r) 0 ne)
+
+pub answered-accepted : (k : ℕ) (p : Program) → 0 ≡ k → compiled_said (Ok p) ≡ answered_by k p
+answered-accepted k p e = rw (← e)
 
 first-assoc : (a b c : ℕ) → first_of a (first_of b c) ≡ first_of (first_of a b) c
 unfolding first_of
@@ -67,9 +79,14 @@ module _ (w : Wiring) (tables : List Float) (l : Memories) where
   refused-by code h e = by_code code e ∙ simp (ne_eqb code 0 h)
 
   -- rows 6 and 13
-  pub compile-early : (code : ℕ) → early_code w.matrix tables w.config ≡ code → code ≢ 0 → compile w tables l ≡ record { answer = refusal code; lent = l }
-  compile-early code e h =
-      refused-by code h (code_is ∙ ap (λ (n : ℕ). first_of n (judged (14 when short ∷ []))) e ∙ first_of-code code (judged (14 when short ∷ [])) h)
+  pub compile-early : (r : Refusal) → number_of r ≡ early_code w.matrix tables w.config → compile w tables l ≡ record { answer = compiled_said (Err r); lent = l }
+  compile-early r e =
+      let above : 0 < number_of r = number-above r in
+      let ne : number_of r ≢ 0 = λ z. omega (arith, z) in
+      refused-by (number_of r) ne
+      (code_is
+      ∙ ap (λ (n : ℕ). first_of n (judged (14 when short ∷ []))) (sym e)
+      ∙ first_of-code (number_of r) (judged (14 when short ∷ [])) ne)
 
   late : early_code w.matrix tables w.config ≡ 0 → judged (compile_rows w tables l) ≡ judged (14 when short ∷ [])
   late e = code_is ∙ ap (λ (n : ℕ). first_of n (judged (14 when short ∷ []))) e ∙ first_of-zero (judged (14 when short ∷ []))

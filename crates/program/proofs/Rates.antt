@@ -1,12 +1,11 @@
 -- The rate of a destination, looked up plan by plan. Assumes nothing.
-use mathlib.Core.Path.{◌≡◌, refl, sym, ap, ◌∙◌}
+use mathlib.Core.Path.{◌≡◌, ap, ◌∙◌}
 use mathlib.Core.List.{List, [], ◌∷◌}
 use Prim.Native.Nat.{ℕ, ◌+◌}
 use borrow.Author.Tests.{eq-eqb, ne_eqb}
 use lib.ListN.{drop}
+use Rattle.std.specs.Prelude.{None}
 use Rattle.state.specs.declared.Plan.{Plan}
-use Rattle.program.specs.declared.RateRead.{RateRead}
-use Rattle.program.specs.declared.RateRead.TheVariants as T
 use Rattle.program.specs.Readers.{rate_by, rate_from}
 
 module _ (l : List Plan) (d : ℕ) where
@@ -23,6 +22,6 @@ module _ (l : List Plan) (d : ℕ) where
     unfolding rate_from
     others-next ne = o ∙ ap (λ (m : List Plan). rate_from m d) h ∙ simp (ne_eqb p.dest d ne)
 
-  pub no-rate : (i : ℕ) → drop i l ≡ [] → Others i → rate_from l d ≡ T.Nothing
+  pub no-rate : (i : ℕ) → drop i l ≡ [] → Others i → rate_from l d ≡ None
   unfolding rate_from
   no-rate i h o = o ∙ ap (λ (m : List Plan). rate_from m d) h

@@ -6,50 +6,36 @@ use Prim.Native.Nat.{ℕ}
 use lib.Dec.{eqb, ltb}
 use lib.ListN.{get_or, take}
 use Rattle.refusal.specs.Judge.{judged}
-use Rattle.reply.specs.Reply.{Reply, accepts, only, by_rows}
+use Rattle.reply.specs.Reply.{accepts, only, by_rows}
 use Rattle.state.specs.declared.Plan.{Plan}
 use Rattle.state.specs.declared.Route.{Route}
 use Rattle.state.specs.declared.Skipped.{Skipped}
+use Rattle.std.specs.Prelude.{Option, Some, None}
+use Rattle.state.specs.declared.Rate.{Rate}
 use Rattle.state.specs.declared.Rate.TheVariants as R
 use Rattle.state.specs.declared.Program.{Program}
 use Rattle.state_filled.specs.Filled.{no_plan, no_route, no_skip}
-use Rattle.program.specs.declared.PlanRead.{PlanRead}
-use Rattle.program.specs.declared.PlanRead.TheVariants as P
-use Rattle.program.specs.declared.RouteRead.{RouteRead}
-use Rattle.program.specs.declared.RouteRead.TheVariants as W
-use Rattle.program.specs.declared.SkippedRead.{SkippedRead}
-use Rattle.program.specs.declared.SkippedRead.TheVariants as S
-use Rattle.program.specs.declared.RateRead.{RateRead}
-use Rattle.program.specs.declared.RateRead.TheVariants as T
 use Rattle.program.specs.Readers.{plan_count, route_count, skip_count, plan_at, route_at, skipped_at, rate_by}
 use Rattle.program.specs.Readers.{rate_from, rate_of}
-use Rattle.program.specs.Replies.{plan_reply, route_reply, skipped_reply, rate_reply, plan_says, route_says}
+use Rattle.program.specs.Replies.{read_reply, plan_says, route_says}
 use Rattle.program.specs.Replies.{skipped_says}
 use Rattle.program.specs.Replies.{plans_of, plan_rate, rate_says}
 
 -- ---- an answer that brings one thing or nothing
 
-plan-if : (b : Bool) (p : Plan) → plan_reply (cond b (P.Plan p) P.Nothing) ≡ accepts (only b p)
-plan-if true p = refl
-plan-if false p = refl
+read-if : {A : Type 0} (b : Bool) (x : A) → read_reply (cond b (Some x) None) ≡ accepts (only b x)
+read-if true x = refl
+read-if false x = refl
 
-route-if : (b : Bool) (x : Route) → route_reply (cond b (W.Route x) W.Nothing) ≡ accepts (only b x)
-route-if true x = refl
-route-if false x = refl
-
-skipped-if : (b : Bool) (s : Skipped) → skipped_reply (cond b (S.Skipped s) S.Nothing) ≡ accepts (only b s)
-skipped-if true s = refl
-skipped-if false s = refl
-
-rate-by : (b : Bool) → rate_reply (rate_by b) ≡ accepts (cond b R.Audio R.Control ∷ [])
+rate-by : (b : Bool) → read_reply (rate_by b) ≡ accepts (cond b R.Audio R.Control ∷ [])
 rate-by true = refl
 rate-by false = refl
 
-rate-if : (b : Bool) (x : Plan) (r : RateRead) (xs : List Plan) → rate_reply r ≡ accepts (map plan_rate (take 1 xs)) → rate_reply (cond b (rate_by x.audio) r) ≡ accepts (map plan_rate (take 1 (cond b (x ∷ xs) xs)))
+rate-if : (b : Bool) (x : Plan) (r : Option Rate) (xs : List Plan) → read_reply r ≡ accepts (map plan_rate (take 1 xs)) → read_reply (cond b (rate_by x.audio) r) ≡ accepts (map plan_rate (take 1 (cond b (x ∷ xs) xs)))
 rate-if true x r xs h = rate-by x.audio
 rate-if false x r xs h = h
 
-rate-from : (xs : List Plan) (d : ℕ) → rate_reply (rate_from xs d) ≡ accepts (map plan_rate (take 1 (plans_of d xs)))
+rate-from : (xs : List Plan) (d : ℕ) → read_reply (rate_from xs d) ≡ accepts (map plan_rate (take 1 (plans_of d xs)))
 unfolding rate_from
 rate-from [] d = refl
 rate-from (x ∷ xs) d = rate-if (eqb x.dest d) x (rate_from xs d) (plans_of d xs) (rate-from xs d)
@@ -57,18 +43,18 @@ rate-from (x ∷ xs) d = rate-if (eqb x.dest d) x (rate_from xs d) (plans_of d x
 -- ---- the calls
 
 module _ (p : Program) (i : ℕ) where
-  pub plan-said : (r : PlanRead) → r ≡ plan_at p i → (r ≡ plan_at p i) × (plan_reply r ≡ plan_says p i)
+  pub plan-said : (r : Option Plan) → r ≡ plan_at p i → (r ≡ plan_at p i) × (read_reply r ≡ plan_says p i)
   unfolding plan_at plan_says
-  plan-said r h = (h, rw h (plan-if (ltb i (plan_count p)) (get_or p.plan i no_plan)))
+  plan-said r h = (h, rw h (read-if (ltb i (plan_count p)) (get_or p.plan i no_plan)))
 
-  pub route-said : (r : RouteRead) → r ≡ route_at p i → (r ≡ route_at p i) × (route_reply r ≡ route_says p i)
+  pub route-said : (r : Option Route) → r ≡ route_at p i → (r ≡ route_at p i) × (read_reply r ≡ route_says p i)
   unfolding route_at route_says
-  route-said r h = (h, rw h (route-if (ltb i (route_count p)) (get_or p.route i no_route)))
+  route-said r h = (h, rw h (read-if (ltb i (route_count p)) (get_or p.route i no_route)))
 
-  pub skipped-said : (r : SkippedRead) → r ≡ skipped_at p i → (r ≡ skipped_at p i) × (skipped_reply r ≡ skipped_says p i)
+  pub skipped-said : (r : Option Skipped) → r ≡ skipped_at p i → (r ≡ skipped_at p i) × (read_reply r ≡ skipped_says p i)
   unfolding skipped_at skipped_says
-  skipped-said r h = (h, rw h (skipped-if (ltb i (skip_count p)) (get_or p.skipped i no_skip)))
+  skipped-said r h = (h, rw h (read-if (ltb i (skip_count p)) (get_or p.skipped i no_skip)))
 
-  pub rate-said : (r : RateRead) → r ≡ rate_of p i → (r ≡ rate_of p i) × (rate_reply r ≡ rate_says p i)
+  pub rate-said : (r : Option Rate) → r ≡ rate_of p i → (r ≡ rate_of p i) × (read_reply r ≡ rate_says p i)
   unfolding rate_of rate_says by_rows judged
   rate-said r h = (h, rw h (rate-from (take (plan_count p) p.plan) i))

@@ -1,6 +1,6 @@
 -- The definitions, computed.
 use Rattle.std.specs.Prelude.{◌≡◌, refl, Bool, true, false, List, [], ◌∷◌, ◌++◌, ℕ, ◌+◌, ◌-◌, ◌*◌, pos, replicate}
-use Rattle.std.specs.Prelude.{Float}
+use Rattle.std.specs.Prelude.{Float, Some, None}
 use Rattle.std.specs.Float.{nan, fin}
 use Rattle.std.specs.Float.Ieee.{le}
 use Rattle.config.specs.Sizes.{slots}
@@ -8,7 +8,7 @@ use Rattle.config.specs.declared.Config.{Config}
 use Rattle.feed.specs.Order.{order}
 use Rattle.refusal.specs.Judge.{judged}
 use Rattle.list.specs.Padded.{padded}
-use Rattle.list.specs.Part.{part, on_part}
+use Rattle.list.specs.Part.{part}
 use Rattle.list.specs.Rows.{row_at}
 use Rattle.number.specs.Number.{zero32, one32, finite}
 use Rattle.curve_table.specs.Table.{points, allowed, all_allowed}
@@ -16,6 +16,7 @@ use Rattle.curve_table.specs.Curve.{seconds_finite}
 use Rattle.state.specs.declared.NoteCurve.TheVariants as N
 use Rattle.state.specs.declared.Base.TheVariants as B
 use Rattle.state.specs.declared.Reason.TheVariants as E
+use Rattle.state.specs.declared.Rate.TheVariants as R
 use Rattle.state.specs.declared.Plan.{Plan}
 use Rattle.state.specs.declared.Matrix.{Matrix}
 use Rattle.state.specs.declared.Program.{Program}
@@ -28,10 +29,6 @@ use Rattle.model.specs.Wiring.{verdict, verdicts_from, verdicts, candidates, ski
 use Rattle.model.specs.Feeds.{in_use, controls, audios, reads, readers_of, is_audio, plan_order}
 use Rattle.model.specs.Plans.{plans_of, all_routes, compiled}
 use Rattle.model.specs.Compile.{empty_of, empty_program, compile}
-use Rattle.program.specs.declared.PlanRead.TheVariants as P
-use Rattle.program.specs.declared.RouteRead.TheVariants as R
-use Rattle.program.specs.declared.SkippedRead.TheVariants as S
-use Rattle.program.specs.declared.RateRead.TheVariants as T
 use Rattle.program.specs.Readers.{route_count, plan_count, skip_count, plan_at, route_at, skipped_at, rate_from}
 use Rattle.program.specs.Readers.{rate_of}
 use Rattle.program.specs.Readers.{config_of}
@@ -71,17 +68,17 @@ counts : (route_count some ≡ slots) × (plan_count some ≡ 2) × (skip_count 
 unfolding some route_count plan_count skip_count config_of
 counts = (refl, refl, refl, refl)
 
-plans : (plan_at some 1 ≡ P.Plan (plan_of 5 true)) × (plan_at some 2 ≡ P.Nothing) × (route_at some slots ≡ R.Nothing)
+plans : (plan_at some 1 ≡ Some (plan_of 5 true)) × (plan_at some 2 ≡ None) × (route_at some slots ≡ None)
 unfolding some plan_at plan_count route_at route_count
 plans = (refl, refl, refl)
 
-left_out : (skipped_at some 0 ≡ S.Skipped (record { slot = 9; reason = E.UnknownAux }))
-    × (skipped_at some 1 ≡ S.Nothing)
+left_out : (skipped_at some 0 ≡ Some (record { slot = 9; reason = E.UnknownAux }))
+    × (skipped_at some 1 ≡ None)
 unfolding some skipped_at skip_count
 left_out = (refl, refl)
 
 -- a plan past the count is none: destination 6 has no rate
-rates : (rate_of some 5 ≡ T.Audio) × (rate_of some 7 ≡ T.Control) × (rate_of some 6 ≡ T.Nothing)
+rates : (rate_of some 5 ≡ Some R.Audio) × (rate_of some 7 ≡ Some R.Control) × (rate_of some 6 ≡ None)
 unfolding some rate_of rate_from plan_count
 rates = (refl, refl, refl)
 

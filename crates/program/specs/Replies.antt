@@ -1,6 +1,6 @@
 -- What the readers of a program say: number and values of each case (document 01, The form to use in each place).
 -- Definitions only.
-use Rattle.std.specs.Prelude.{cond, List, [], ◌∷◌, map, ℕ, eqb, ltb, get_or, take}
+use Rattle.std.specs.Prelude.{cond, List, [], ◌∷◌, map, ℕ, eqb, ltb, get_or, take, Option, Some, None}
 use Rattle.reply.specs.Reply.{Reply, accepts, only, by_rows}
 use Rattle.state.specs.declared.Plan.{Plan}
 use Rattle.state.specs.declared.Route.{Route}
@@ -9,35 +9,13 @@ use Rattle.state.specs.declared.Rate.{Rate}
 use Rattle.state.specs.declared.Rate.TheVariants as R
 use Rattle.state.specs.declared.Program.{Program}
 use Rattle.state_filled.specs.Filled.{no_plan, no_route, no_skip}
-use Rattle.program.specs.declared.PlanRead.{PlanRead}
-use Rattle.program.specs.declared.PlanRead.TheVariants as P
-use Rattle.program.specs.declared.RouteRead.{RouteRead}
-use Rattle.program.specs.declared.RouteRead.TheVariants as W
-use Rattle.program.specs.declared.SkippedRead.{SkippedRead}
-use Rattle.program.specs.declared.SkippedRead.TheVariants as S
-use Rattle.program.specs.declared.RateRead.{RateRead}
-use Rattle.program.specs.declared.RateRead.TheVariants as T
 use Rattle.program.specs.Readers.{plan_count, route_count, skip_count}
 
--- ---- each case
+-- ---- each case: what stands there, or nothing
 
-abbrev pub plan_reply : PlanRead → Reply Plan
-plan_reply P.Nothing = accepts []
-plan_reply (P.Plan p) = accepts (p ∷ [])
-
-abbrev pub route_reply : RouteRead → Reply Route
-route_reply W.Nothing = accepts []
-route_reply (W.Route x) = accepts (x ∷ [])
-
-abbrev pub skipped_reply : SkippedRead → Reply Skipped
-skipped_reply S.Nothing = accepts []
-skipped_reply (S.Skipped s) = accepts (s ∷ [])
-
--- program.rs 255-263
-abbrev pub rate_reply : RateRead → Reply Rate
-rate_reply T.Nothing = accepts []
-rate_reply T.Audio = accepts (R.Audio ∷ [])
-rate_reply T.Control = accepts (R.Control ∷ [])
+abbrev pub read_reply : {A : Type 0} → Option A → Reply A
+read_reply None = accepts []
+read_reply (Some x) = accepts (x ∷ [])
 
 -- ---- what each call says, with no row: what stands at i, if there is such a one
 
@@ -58,6 +36,7 @@ abbrev pub plans_of : ℕ → List Plan → List Plan
 plans_of d [] = []
 plans_of d (x ∷ xs) = cond (eqb x.dest d) (x ∷ plans_of d xs) (plans_of d xs)
 
+-- program.rs 255-263
 abbrev pub plan_rate : Plan → Rate
 plan_rate x = cond x.audio R.Audio R.Control
 

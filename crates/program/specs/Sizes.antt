@@ -1,12 +1,11 @@
 -- The sizes that a configuration gives (program.rs 22-35; document 01, Constants). Definitions only.
-use Rattle.std.specs.Prelude.{◌≡◌, refl, ℕ, zero, suc, pos, Float}
-use Rattle.std.specs.Float.{inf, fin}
+use Rattle.std.specs.Prelude.{◌≡◌, refl, ℕ, zero, suc}
 use Rattle.std.specs.Float.Ieee.{le}
 use Rattle.number.specs.Number.{one32, finite}
 use Rattle.config.specs.declared.Config.{Config}
 use Rattle.config.specs.Sizes.{lane_stride, most_chunks}
 use Rattle.config.specs.Configuration.{config_code}
-use Rattle.program.specs.declared.Count.{Count}
+use Rattle.program.specs.Answers.{Count}
 
 -- the number where the configuration is accepted; a refusal carries its row and 0
 abbrev pub counted : ℕ → ℕ → Count

@@ -2,97 +2,53 @@
 #![tactic(auto)]
 
 ghost use Rattle.std.specs.Prelude.{◌≡◌, ◌&&◌, ◌||◌, ltb, length};
+ghost use Rattle.refusal.specs.Refusal.{code_of};
 ghost use Rattle.config.specs.Configuration.{config_code};
-ghost use Rattle.number.specs.Number.{one32};
 ghost use Rattle.slots_tables.specs.Tables.{tables_need};
-ghost use Rattle.model.specs.Compile.{empty_of, empty_program, numbers_allowed, compile};
+ghost use Rattle.model.specs.Compile.{empty_program, numbers_allowed, compile};
 ghost use Rattle.program.specs.Sizes.{stride_call, max_chunks_call};
-ghost use Rattle.program.specs.Replies.{plan_reply, route_reply, skipped_reply, rate_reply};
-ghost use Rattle.program.specs.Replies.{plan_says, route_says, skipped_says, rate_says};
+ghost use Rattle.program.specs.Answers.{count_said, compiled_said};
+ghost use Rattle.program.specs.Replies.{read_reply, plan_says, route_says, skipped_says, rate_says};
 ghost use Rattle.program.specs.Readers.{route_count, plan_count, plan_at, route_at, skip_count, skipped_at, rate_by};
 ghost use Rattle.program.specs.Readers.{rate_of, config_of};
 ghost use Rattle.program.specs.Steps.{early_code, held_values, held_audio, copied};
 
 use config::Config;
+use refusal::Refusal;
 use slots_tables::TABLES;
-use state::{Compiled, Destinations, Matrix, Plan, Program, Route, Skipped, Sources};
+use state::{Destinations, Matrix, Plan, Program, Rate, Route, Skipped, Sources};
 
-// A number, or the row by which it is refused, with 0.
-#[derive(Clone, Copy)]
-pub struct Count {
-    pub code: u8,
-    pub n: usize,
+// rows 6 and 13 of a configuration
+fn check(config: Config) -> Result<(), Refusal>
+    ensures { code_of result ≡ config_code config.sample_rate config.max_frames config.voices }
+{
+    config::check(config.sample_rate, config.max_frames, config.voices)
 }
 
 // Numbers from one frame's row to the next in per-voice rows.
-pub fn stride(config: Config) -> Count
-    ensures { result ≡ stride_call config }
+pub fn stride(config: Config) -> Result<usize, Refusal>
+    ensures { count_said result ≡ stride_call config }
 {
-    let voices = config.voices;
-    let code = config::code(config.sample_rate, config.max_frames, voices);
-    if code != 0 {
-        return Count { code, n: 0 };
-    }
-    Count {
-        code: 0,
-        n: config::lane_stride(voices),
-    }
+    check(config)?;
+    Ok(config::lane_stride(config.voices))
 }
 
 // The most chunks that a block has.
-pub fn max_chunks(config: Config) -> Count
-    ensures { result ≡ max_chunks_call config }
+pub fn max_chunks(config: Config) -> Result<usize, Refusal>
+    ensures { count_said result ≡ max_chunks_call config }
 {
-    let frames = config.max_frames;
-    let code = config::code(config.sample_rate, frames, config.voices);
-    if code != 0 {
-        return Count { code, n: 0 };
-    }
-    Count {
-        code: 0,
-        n: config::most_chunks(frames),
-    }
+    check(config)?;
+    Ok(config::most_chunks(config.max_frames))
 }
 
 // ---- making programs
 
-// a refusal, with the empty program for rate 1, 0 frames, 0 voices
-fn refused(code: u8) -> Compiled
-    ensures { result ≡ record {
-      code = code;
-      program = empty_of
-          (record { sample_rate = one32; max_frames = 0; voices = 0 });
-    } }
-{
-    let none = Config {
-        sample_rate: 1.0,
-        max_frames: 0,
-        voices: 0,
-    };
-    Compiled {
-        code,
-        program: compile::empty_of(none),
-    }
-}
-
-fn config_code(config: Config) -> u8
-    ensures { result ≡ config_code config.sample_rate config.max_frames config.voices }
-{
-    config::code(config.sample_rate, config.max_frames, config.voices)
-}
-
 // A program with no routes.
-pub fn empty(config: Config) -> Compiled
-    ensures { result ≡ empty_program config }
+pub fn empty(config: Config) -> Result<Program, Refusal>
+    ensures { compiled_said result ≡ empty_program config }
 {
-    let code = config_code(config);
-    if code != 0 {
-        return refused(code);
-    }
-    Compiled {
-        code: 0,
-        program: compile::empty_of(config),
-    }
+    check(config)?;
+    Ok(compile::empty_of(config))
 }
 
 // row 6 of the matrix and its tables
@@ -107,12 +63,11 @@ fn numbers_allowed(matrix: Matrix, tables: &[f32]) -> bool
 }
 
 // rows 6 and 13
-fn early_code(matrix: Matrix, tables: &[f32], config: Config) -> u8
-    ensures { result ≡ early_code matrix tables.now config }
+fn check_early(matrix: Matrix, tables: &[f32], config: Config) -> Result<(), Refusal>
+    ensures { code_of result ≡ early_code matrix tables.now config }
 {
-    let numbers = refusal::row(!numbers_allowed(matrix, tables), 6);
-    let range = config_code(config);
-    refusal::first(numbers, range)
+    refusal::when(!numbers_allowed(matrix, tables), Refusal::Number)?;
+    check(config)
 }
 
 // row 14 of the tables, by their lengths
@@ -185,8 +140,8 @@ pub fn compile(
     values: &mut [f32],
     audio: &mut [f32],
     tables: &mut [f32],
-) -> Compiled
-    ensures answer { result ≡ (compile
+) -> Result<Program, Refusal>
+    ensures answer { compiled_said result ≡ (compile
         (record { matrix = matrix; sources = sources; dests = dests; config = config })
         matrix_tables.now
         (record {
@@ -207,49 +162,21 @@ pub fn compile(
           tables = tables.old;
         })).lent }
 {
-    let early = early_code(matrix, matrix_tables, config);
-    if early != 0 {
-        return refused(early);
-    }
+    check_early(matrix, matrix_tables, config)?;
     let program = compile::compiled(matrix, sources, dests, config);
     if tables_short(program.tabled, matrix_tables.len(), tables.len()) {
-        return refused(14);
+        return Err(Refusal::Memory);
     }
     if memory_short(program, values.len(), audio.len()) {
-        return refused(14);
+        return Err(Refusal::Memory);
     }
     compile::zero(values, values_need(program));
     compile::zero(audio, audio_need(program));
     copy_tables(program.tabled, tables, matrix_tables);
-    Compiled { code: 0, program }
+    Ok(program)
 }
 
 // ---- what a program tells of itself
-
-#[derive(Clone, Copy)]
-pub enum PlanRead {
-    Nothing,
-    Plan(Plan),
-}
-
-#[derive(Clone, Copy)]
-pub enum RouteRead {
-    Nothing,
-    Route(Route),
-}
-
-#[derive(Clone, Copy)]
-pub enum SkippedRead {
-    Nothing,
-    Skipped(Skipped),
-}
-
-#[derive(Clone, Copy)]
-pub enum RateRead {
-    Nothing,
-    Audio,
-    Control,
-}
 
 // how many routes it runs
 pub fn route_count(program: Program) -> usize
@@ -266,27 +193,25 @@ pub fn plan_count(program: Program) -> usize
 }
 
 // plan i
-pub fn plan(program: Program, i: usize) -> PlanRead
+pub fn plan(program: Program, i: usize) -> Option<Plan>
     ensures value { result ≡ plan_at program i }
-    ensures reply { plan_reply result ≡ plan_says program i }
+    ensures reply { read_reply result ≡ plan_says program i }
 {
     if state_filled::held(program.plans) <= i {
-        return PlanRead::Nothing;
+        return None;
     }
-    let p = program.plan[i];
-    PlanRead::Plan(p)
+    Some(program.plan[i])
 }
 
 // route i
-pub fn route(program: Program, i: usize) -> RouteRead
+pub fn route(program: Program, i: usize) -> Option<Route>
     ensures value { result ≡ route_at program i }
-    ensures reply { route_reply result ≡ route_says program i }
+    ensures reply { read_reply result ≡ route_says program i }
 {
     if state_filled::held(program.routes) <= i {
-        return RouteRead::Nothing;
+        return None;
     }
-    let x = program.route[i];
-    RouteRead::Route(x)
+    Some(program.route[i])
 }
 
 // how many slots were left out with a reason
@@ -297,41 +222,38 @@ pub fn skip_count(program: Program) -> usize
 }
 
 // the i-th slot left out, and its reason
-pub fn skipped(program: Program, i: usize) -> SkippedRead
+pub fn skipped(program: Program, i: usize) -> Option<Skipped>
     ensures value { result ≡ skipped_at program i }
-    ensures reply { skipped_reply result ≡ skipped_says program i }
+    ensures reply { read_reply result ≡ skipped_says program i }
 {
     if state_filled::held(program.skips) <= i {
-        return SkippedRead::Nothing;
+        return None;
     }
-    let s = program.skipped[i];
-    SkippedRead::Skipped(s)
+    Some(program.skipped[i])
 }
 
-fn rate_by(audio: bool) -> RateRead
+fn rate_by(audio: bool) -> Option<Rate>
     ensures { result ≡ rate_by audio }
 {
     if audio {
-        return RateRead::Audio;
+        return Some(Rate::Audio);
     }
-    RateRead::Control
+    Some(Rate::Control)
 }
 
 // the rate of the plan of dest
-pub fn rate(program: Program, dest: usize) -> RateRead
+pub fn rate(program: Program, dest: usize) -> Option<Rate>
     ensures value { result ≡ rate_of program dest }
-    ensures reply { rate_reply result ≡ rate_says program dest }
+    ensures reply { read_reply result ≡ rate_says program dest }
 {
     let n = state_filled::held(program.plans);
-    let mut i = 0;
-    while i < n {
+    for i in 0..n {
         let p = program.plan[i];
         if p.dest as usize == dest {
             return rate_by(p.audio);
         }
-        i += 1;
     }
-    RateRead::Nothing
+    None
 }
 
 // what it was compiled for

@@ -10,6 +10,9 @@ use native.Mathlib.Omega.{arith}
 use lib.Dec.{T, leb, ltb, leb→le, ltb→lt}
 use Rattle.list.proofs.Bools.{which}
 use Rattle.refusal.specs.Judge.{Row, ◌when◌, judged, first_of, numbered, ascends_from, ascends, NoneApplies, First}
+use Rattle.refusal.specs.Refusal.{number_of}
+use Rattle.refusal.specs.declared.Refusal.{Refusal}
+use Rattle.refusal.specs.declared.Refusal.TheVariants as R
 
 -- ---- one row at a time
 
@@ -161,3 +164,47 @@ judged-skip (r ∷ rs) ss h =
 -- a row before others, as `first` of what `row` gives and of the others' answer
 pub judged-row : (n : ℕ) (t : Bool) (rs : List Row) → T (ltb 0 n) → judged (n when t ∷ rs) ≡ first_of (judged (n when t ∷ [])) (judged rs)
 judged-row n t rs h = judged-append (n when t ∷ []) rs (and_both (ltb 0 n) true h tt)
+
+-- ---- answers that may be refusals
+
+-- every refusal has a number
+pub number-above : (r : Refusal) → 0 < number_of r
+number-above R.RangeEnd = omega arith
+number-above R.Voice = omega arith
+number-above R.Source = omega arith
+number-above R.Destination = omega arith
+number-above R.Slot = omega arith
+number-above R.Number = omega arith
+number-above R.OtherConfig = omega arith
+number-above R.OtherRegistries = omega arith
+number-above R.Registered = omega arith
+number-above R.Bounds = omega arith
+number-above R.FeedSlot = omega arith
+number-above R.Full = omega arith
+number-above R.Range = omega arith
+number-above R.Memory = omega arith
+number-above R.Length = omega arith
+
+-- rows of which the first refuses
+pub judged-refused : (rs ss : List Row) (r : Refusal) → T (numbered rs) → number_of r ≡ judged rs → judged (rs ++ ss) ≡ number_of r
+judged-refused rs ss r t e =
+    let pos : 0 < number_of r = number-above r in
+    let c : judged rs ≢ 0 = λ z. omega arith in
+    judged-append rs ss t ∙ first_of-code (judged rs) (judged ss) c ∙ sym e
+
+-- rows of which the first accept
+pub judged-then : (rs ss : List Row) → T (numbered rs) → 0 ≡ judged rs → judged (rs ++ ss) ≡ judged ss
+judged-then rs ss t e =
+    judged-append rs ss t ∙ ap (λ (c : ℕ). first_of c (judged ss)) (sym e) ∙ first_of-zero (judged ss)
+
+-- a row that refuses applies, and has the refusal's number
+pub applies-here : (t : Bool) (n : ℕ) (r : Refusal) → number_of r ≡ judged (n when t ∷ []) → (t ≡ true) × (number_of r ≡ n)
+unfolding judged
+applies-here true n r e = (refl, e)
+applies-here false n r e = let pos : 0 < number_of r = number-above r in absurd (omega arith)
+
+-- a row that does not refuse does not apply
+pub passes-here : (t : Bool) (n : ℕ) → T (ltb 0 n) → 0 ≡ judged (n when t ∷ []) → t ≡ false
+unfolding judged
+passes-here true n above e = let pos : 0 < n = ltb→lt 0 n above in absurd (omega arith)
+passes-here false n above e = refl

@@ -41,13 +41,7 @@ fn feed_at(from: usize, at: usize, text: &[u8]) -> usize {
 // whether the output from `from` on, of which `at` bytes are there, begins with this line
 fn begins(out: &[u8], from: usize, at: usize, text: &[u8]) -> bool {
     let e = feed_at(from, at, text);
-    if at <= e {
-        return false;
-    }
-    if out.len() <= e {
-        return false;
-    }
-    if out[e] != 10 {
+    if at <= e || out.get(e) != Some(&b'\n') {
         return false;
     }
     trace_input_session::is(trace_input_session::part(out, from, e), text)
@@ -109,25 +103,19 @@ pub fn over(t: Tally, number: u64, stdout: Stdout, out: &[u8], at: usize) -> Tal
 
 // the byte that a line begins with; # where there is none
 fn mark(text: &[u8]) -> u8 {
-    if text.len() == 0 {
-        return 35;
+    match text.first() {
+        Some(b) => *b,
+        None => b'#',
     }
-    text[0]
 }
 
 // whether a line starts a new session
 pub fn starts(text: &[u8]) -> bool {
-    mark(text) == 61
+    mark(text) == b'='
 }
 
 fn is_session(b: u8) -> bool {
-    if b == 35 {
-        return false;
-    }
-    if b == 61 {
-        return false;
-    }
-    b != 124
+    !matches!(b, b'#' | b'=' | b'|')
 }
 
 // the session line that a line is; an empty one where it is none
@@ -149,7 +137,7 @@ pub fn room(line: &[u8], at: usize) -> usize {
 // with a line that is read, before it is answered: of the last answer `at` bytes are printed
 pub fn read(t: Tally, number: u64, text: &[u8], stdout: Stdout, out: &[u8], at: usize) -> Tally {
     let b = mark(text);
-    if b == 124 {
+    if b == b'|' {
         return stored(
             t,
             number,
@@ -167,13 +155,7 @@ pub fn read(t: Tally, number: u64, text: &[u8], stdout: Stdout, out: &[u8], at: 
 
 // the length of the `@LINE word` above an answer; 0 where there is none
 fn head(out: &[u8], at: usize) -> usize {
-    if at == 0 {
-        return 0;
-    }
-    if out.len() == 0 {
-        return 0;
-    }
-    if out[0] != 64 {
+    if at == 0 || out.first() != Some(&b'@') {
         return 0;
     }
     trace_input_lines::after(trace_input_lines::line_end(out, 0, at))

@@ -2,8 +2,6 @@
 // and how many of them differ, with the first few that do.
 #![tactic(auto)]
 
-ghost use Rattle.std.specs.Prelude.{◌<◌};
-
 mod comparing;
 
 use comparing::Tally;
@@ -15,14 +13,6 @@ use trace_session::Session;
 
 // ---- memories
 
-fn clear_book(s: &mut [usize]) {
-    let mut i = 0usize;
-    while i < s.len() {
-        s[i] = 0;
-        i += 1usize;
-    }
-}
-
 // all numbers 0
 fn clear(
     book: &mut [usize],
@@ -31,28 +21,14 @@ fn clear(
     audio: &mut [f32],
     pool: &mut [f32],
 ) {
-    clear_book(book);
-    list::fill(desk, 0.0);
-    list::fill(values, 0.0);
-    list::fill(audio, 0.0);
-    list::fill(pool, 0.0);
+    book.fill(0);
+    desk.fill(0.0);
+    values.fill(0.0);
+    audio.fill(0.0);
+    pool.fill(0.0);
 }
 
 // ---- sessions
-
-// none where a session or a list is over, else one less
-fn fewer(left: u64, over: bool, done: bool) -> u64
-    requires { 0 < left }
-    ensures { result < left }
-{
-    if over {
-        return 0;
-    }
-    if done {
-        return 0;
-    }
-    left - 1
-}
 
 // A session after a line of the list: the session, the list's answers so far, and whether the line starts another session.
 #[derive(Clone, Copy)]
@@ -110,7 +86,7 @@ struct Replayed {
     done: bool,
 }
 
-// The rest of a session, from fresh memories, at most 2^62 lines of it; the line that starts the next one is read too.
+// The rest of a session, from fresh memories; the line that starts the next one is read too.
 fn replay_lines(
     file: &mut File,
     from: Reader,
@@ -128,18 +104,16 @@ fn replay_lines(
     let mut r = from;
     let mut t = before;
     let mut done = false;
-    let mut left = 4611686018427387904u64;
-    while 0 < left {
+    for _ in 0..u64::MAX {
         let a = trace_input_lines::ahead(file, input, r);
         let p = step(s, t, a, input, stdout, out, book, desk, values, audio, pool);
-        let session = p.session;
-        s = session;
-        let tally = p.tally;
-        t = tally;
-        let reader = a.reader;
-        r = reader;
+        s = p.session;
+        t = p.tally;
+        r = a.reader;
         done = a.done;
-        left = fewer(left, p.over, done);
+        if done || p.over {
+            break;
+        }
     }
     let tally = comparing::over(t, r.number, stdout, out, trace_session::waiting(s));
     Replayed {
@@ -181,7 +155,7 @@ fn replay_session(
 
 // ---- lists
 
-// A list whose file is open, at most 2^62 sessions of it.
+// A list whose file is open.
 fn replay_list(
     file: &mut File,
     input: &mut [u8],
@@ -195,16 +169,15 @@ fn replay_list(
 ) -> Tally {
     let mut t = comparing::none();
     let mut r = trace_input_lines::first();
-    let mut left = 4611686018427387904u64;
-    while 0 < left {
+    for _ in 0..u64::MAX {
         let p = replay_session(
             file, r, t, input, stdout, out, book, desk, values, audio, pool,
         );
-        let tally = p.tally;
-        t = tally;
-        let reader = p.reader;
-        r = reader;
-        left = fewer(left, false, p.done);
+        t = p.tally;
+        r = p.reader;
+        if p.done {
+            break;
+        }
     }
     t
 }

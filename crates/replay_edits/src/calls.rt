@@ -1,7 +1,8 @@
 // The calls of the list, made on the port's matrix.
-use crate::listed::{float, is_bipolar, polarity_of, slot, target, word};
-use matrix::Place;
-use state::Matrix;
+use crate::listed::{float, polarity_of, slot, target, word};
+use matrix::Added;
+use refusal::Refusal;
+use state::{Matrix, Polarity};
 
 // What a call answers: its word of the list, its number, and the matrix.
 #[derive(Clone, Copy)]
@@ -11,38 +12,30 @@ pub struct Answered {
     pub matrix: Matrix,
 }
 
-// the word of an answer: 256 and the number where the call is refused
-fn refused(code: u8, word: u32) -> u32 {
-    if code == 0 {
-        return word;
-    }
-    256 + code as u32
-}
-
 // the words of the list for a place that is none: the Rust's slots come before them
 const FULL: u32 = 64;
 
 const NO_FREE_LFO: u32 = 65;
 
-const REFUSED: u32 = 66;
-
-// the word of a place
-fn place(p: Place) -> u32 {
-    match p {
-        Place::At(n) => (n % 0x1_0000_0000) as u32,
-        Place::Full => FULL,
-        Place::NoFreeLfo => NO_FREE_LFO,
-        Place::Refused => REFUSED,
+fn says(word: u32, matrix: Matrix) -> Answered {
+    Answered {
+        word,
+        value: 0.0,
+        matrix,
     }
 }
 
-fn placed(p: matrix::Placed) -> Answered {
-    let at = p.place;
-    let matrix = p.matrix;
-    Answered {
-        word: refused(p.code, place(at)),
-        value: 0.0,
-        matrix,
+// a refused call: its word is 256 and the number, and the matrix stays
+fn refused(m: Matrix, refusal: Refusal) -> Answered {
+    says(256 + refusal.number() as u32, m)
+}
+
+fn placed(m: Matrix, added: Result<Added, Refusal>) -> Answered {
+    match added {
+        Ok(Added::At { slot, matrix }) => says((slot % 0x1_0000_0000) as u32, matrix),
+        Ok(Added::Full) => says(FULL, m),
+        Ok(Added::NoFreeLfo) => says(NO_FREE_LFO, m),
+        Err(refusal) => refused(m, refusal),
     }
 }
 
@@ -50,28 +43,23 @@ fn placed(p: matrix::Placed) -> Answered {
 
 // an empty matrix, whose notes glide
 pub fn clear() -> Answered {
-    let m = matrix::set_velocity_legato(matrix::set_glide(matrix::new(), true), true);
-    Answered {
-        word: 0,
-        value: 0.0,
-        matrix: m,
-    }
+    says(
+        0,
+        matrix::set_velocity_legato(matrix::set_glide(matrix::new(), true), true),
+    )
 }
 
 // a slot set whole
 fn put(m: Matrix, line: &[u8]) -> Answered {
-    let e = matrix::set_slot(m, word(line, 12) as usize, slot(line));
-    let matrix = e.matrix;
-    Answered {
-        word: refused(e.code, 0),
-        value: 0.0,
-        matrix,
+    match matrix::set_slot(m, word(line, 12) as usize, slot(line)) {
+        Ok(next) => says(0, next),
+        Err(refusal) => refused(m, refusal),
     }
 }
 
 fn drag(m: Matrix, line: &[u8]) -> Answered {
     let marks = word(line, 6);
-    placed(matrix::drag(
+    let added = matrix::drag(
         m,
         word(line, 1) as usize,
         target(line, 2),
@@ -79,7 +67,8 @@ fn drag(m: Matrix, line: &[u8]) -> Answered {
         float(line, 5),
         marks % 2 == 1,
         marks / 2 % 2 == 1,
-    ))
+    );
+    placed(m, added)
 }
 
 // byte k of two words, the highest first
@@ -121,22 +110,24 @@ fn vibrato(m: Matrix, line: &[u8]) -> Answered {
         lfo(a, b, 7),
     ];
     let n = word(line, 7) as usize;
-    placed(matrix::create_vibrato(
+    let added = matrix::create_vibrato(
         m,
         part(&lfos, 0, n),
         word(line, 1) as usize,
         target(line, 2),
         float(line, 5),
-    ))
+    );
+    placed(m, added)
 }
 
 fn velocity(m: Matrix, line: &[u8]) -> Answered {
-    placed(matrix::create_velocity_to_amp(
+    let added = matrix::create_velocity_to_amp(
         m,
         word(line, 1) as usize,
         target(line, 2),
         float(line, 5),
-    ))
+    );
+    placed(m, added)
 }
 
 fn one_if(b: bool) -> u32 {
@@ -144,22 +135,21 @@ fn one_if(b: bool) -> u32 {
 }
 
 fn polarity(m: Matrix, line: &[u8]) -> Answered {
-    let p = matrix::drag_polarity(float(line, 4), word(line, 6) % 2 == 1);
-    let made = p.polarity;
-    Answered {
-        word: refused(p.code, one_if(is_bipolar(made))),
-        value: 0.0,
-        matrix: m,
+    match matrix::drag_polarity(float(line, 4), word(line, 6) % 2 == 1) {
+        Ok(made) => says(one_if(made == Polarity::Bipolar), m),
+        Err(refusal) => refused(m, refusal),
     }
 }
 
 fn depth(m: Matrix, line: &[u8]) -> Answered {
     let polarity = polarity_of(word(line, 6));
-    let d = matrix::limit_depth(float(line, 4), polarity, float(line, 5));
-    Answered {
-        word: refused(d.code, 0),
-        value: d.amount,
-        matrix: m,
+    match matrix::limit_depth(float(line, 4), polarity, float(line, 5)) {
+        Ok(value) => Answered {
+            word: 0,
+            value,
+            matrix: m,
+        },
+        Err(refusal) => refused(m, refusal),
     }
 }
 

@@ -1,7 +1,7 @@
 // Slots as the list has them, and whether two matrices are the same.
 use config::SLOTS;
 use curve_table::Curve;
-use state::{Aim, Matrix, Pick, Polarity, Slot, Target};
+use state::{Matrix, Polarity, Slot, Target};
 
 // how many words a line has, and of how many bytes it is with its end
 pub const WORDS: usize = 24;
@@ -39,20 +39,20 @@ pub fn target(line: &[u8], k: usize) -> Target {
     Target::Param(n)
 }
 
-fn aim(line: &[u8], k: usize) -> Aim {
+fn aim(line: &[u8], k: usize) -> Option<Target> {
     if word(line, k) == 0 {
-        return Aim::Nothing;
+        return None;
     }
     let to = target(line, k);
-    Aim::At(to)
+    Some(to)
 }
 
-fn pick(line: &[u8], k: usize) -> Pick {
+fn pick(line: &[u8], k: usize) -> Option<usize> {
     let n = word(line, k);
     if n == 0xFFFF_FFFF {
-        return Pick::Nothing;
+        return None;
     }
-    Pick::Source(n as usize)
+    Some(n as usize)
 }
 
 // the polarity by the lowest flag
@@ -95,143 +95,39 @@ pub fn slot(line: &[u8]) -> Slot {
 
 // ---- whether two are the same
 
-fn is_source(n: usize, b: Pick) -> bool {
-    match b {
-        Pick::Nothing => false,
-        Pick::Source(m) => n == m,
-    }
-}
-
-fn is_no_source(b: Pick) -> bool {
-    match b {
-        Pick::Nothing => true,
-        Pick::Source(_) => false,
-    }
-}
-
-fn same_pick(a: Pick, b: Pick) -> bool {
-    match a {
-        Pick::Nothing => is_no_source(b),
-        Pick::Source(n) => is_source(n, b),
-    }
-}
-
-fn is_target(t: Target, b: Aim) -> bool {
-    match b {
-        Aim::Nothing => false,
-        Aim::At(u) => state::same_target(t, u),
-    }
-}
-
-fn is_no_target(b: Aim) -> bool {
-    match b {
-        Aim::Nothing => true,
-        Aim::At(_) => false,
-    }
-}
-
-fn same_aim(a: Aim, b: Aim) -> bool {
-    match a {
-        Aim::Nothing => is_no_target(b),
-        Aim::At(t) => is_target(t, b),
-    }
-}
-
-pub fn is_bipolar(p: Polarity) -> bool {
-    match p {
-        Polarity::Unipolar => false,
-        Polarity::Bipolar => true,
-    }
-}
-
-fn is_linear(c: Curve) -> bool {
-    match c {
-        Curve::Linear => true,
-        Curve::Table { rise: _, fall: _ } => false,
-    }
-}
-
-fn is_table(x: f32, y: f32, c: Curve) -> bool {
-    match c {
-        Curve::Linear => false,
-        Curve::Table { rise, fall } => both(number::are_same(x, rise), number::are_same(y, fall)),
-    }
-}
-
 fn same_curve(a: Curve, b: Curve) -> bool {
-    match a {
-        Curve::Linear => is_linear(b),
-        Curve::Table { rise, fall } => is_table(rise, fall, b),
+    match (a, b) {
+        (Curve::Linear, Curve::Linear) => true,
+        (Curve::Table { rise, fall }, Curve::Table { rise: x, fall: y }) => {
+            number::are_same(rise, x) && number::are_same(fall, y)
+        }
+        _ => false,
     }
-}
-
-fn both(a: bool, b: bool) -> bool {
-    if a { b } else { false }
-}
-
-fn same_ends(a: Slot, b: Slot) -> bool {
-    let source = a.source;
-    let other_source = b.source;
-    let aux = a.aux;
-    let other_aux = b.aux;
-    let to = a.destination;
-    let other_to = b.destination;
-    both(
-        same_pick(source, other_source),
-        both(same_pick(aux, other_aux), same_aim(to, other_to)),
-    )
-}
-
-fn same_numbers(a: Slot, b: Slot) -> bool {
-    both(
-        number::are_same(a.amount, b.amount),
-        number::are_same(a.output, b.output),
-    )
-}
-
-fn same_marks(a: Slot, b: Slot) -> bool {
-    let p = a.polarity;
-    let q = b.polarity;
-    both(
-        is_bipolar(p) == is_bipolar(q),
-        both(a.aux_invert == b.aux_invert, a.bypass == b.bypass),
-    )
-}
-
-fn same_curves(a: Slot, b: Slot) -> bool {
-    let c = a.source_curve;
-    let d = b.source_curve;
-    let e = a.aux_curve;
-    let f = b.aux_curve;
-    both(same_curve(c, d), same_curve(e, f))
 }
 
 fn same_slot(a: Slot, b: Slot) -> bool {
-    both(
-        both(same_ends(a, b), same_numbers(a, b)),
-        both(same_marks(a, b), same_curves(a, b)),
-    )
+    a.source == b.source
+        && a.aux == b.aux
+        && a.destination == b.destination
+        && a.polarity == b.polarity
+        && a.aux_invert == b.aux_invert
+        && a.bypass == b.bypass
+        && number::are_same(a.amount, b.amount)
+        && number::are_same(a.output, b.output)
+        && same_curve(a.source_curve, b.source_curve)
+        && same_curve(a.aux_curve, b.aux_curve)
 }
 
 fn same_slots(a: [Slot; SLOTS], b: [Slot; SLOTS]) -> bool {
-    let mut i = 0usize;
-    while i < SLOTS {
-        let s = a[i];
-        let t = b[i];
-        if !same_slot(s, t) {
+    for i in 0..SLOTS {
+        if !same_slot(a[i], b[i]) {
             return false;
         }
-        i += 1usize;
     }
     true
 }
 
 // whether all slots of two matrices are the same, and how their notes glide
 pub fn same_matrix(a: Matrix, b: Matrix) -> bool {
-    let s = a.slot;
-    let t = b.slot;
-    both(
-        same_slots(s, t),
-        both(a.glide == b.glide, a.velocity_legato == b.velocity_legato),
-    )
+    same_slots(a.slot, b.slot) && a.glide == b.glide && a.velocity_legato == b.velocity_legato
 }

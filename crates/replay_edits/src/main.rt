@@ -110,11 +110,8 @@ fn step(stdout: Stdout, t: Tally, line: &[u8]) -> Tally {
 // the whole lines of a block
 fn steps(stdout: Stdout, before: Tally, s: &[u8]) -> Tally {
     let mut t = before;
-    let mut at = 0usize;
-    while WIDTH <= s.len() - at {
-        let next = step(stdout, t, &s[at..at + WIDTH]);
-        t = next;
-        at += WIDTH;
+    for line in s.chunks_exact(WIDTH) {
+        t = step(stdout, t, line);
     }
     t
 }
@@ -131,11 +128,9 @@ fn next_block(stdout: Stdout, file: &mut File, t: Tally) -> Tally {
 // A list of at most so many blocks.
 fn replay(stdout: Stdout, file: &mut File) -> Tally {
     let mut t = start();
-    let mut k = 0usize;
-    while k < BLOCKS {
+    for k in 0..BLOCKS {
         let next = next_block(stdout, file, t);
         t = next;
-        k += 1usize;
     }
     t
 }

@@ -6,7 +6,7 @@ use curve_table::POINTS;
 
 // What a list's lines are answers to.
 #[derive(Clone, Copy)]
-pub enum Answers {
+pub enum List {
     // table, position: value
     Lookup,
     // seconds, sample rate: rate per sample
@@ -18,14 +18,14 @@ pub enum Answers {
 }
 
 // how long a line is, its end counted
-pub fn width(list: Answers) -> usize
+pub fn width(list: List) -> usize
     ensures { 0 < result }
 {
     match list {
-        Answers::Lookup => 27,
-        Answers::Rate => 27,
-        Answers::Slew => 63,
-        Answers::Draw => 69,
+        List::Lookup => 27,
+        List::Rate => 27,
+        List::Slew => 63,
+        List::Draw => 69,
     }
 }
 
@@ -50,10 +50,8 @@ fn number_or_0(s: &[u8], i: usize) -> f32 {
 
 // the numbers of a list with one a line; 0 past its end
 pub fn numbers(s: &[u8], out: &mut [f32]) {
-    let mut i = 0usize;
-    while i < out.len() {
-        out[i] = number_or_0(s, i);
-        i += 1usize;
+    for (i, x) in out.iter_mut().enumerate() {
+        *x = number_or_0(s, i);
     }
 }
 
@@ -64,60 +62,42 @@ fn lookup_at(tables: &[f32], t: u32, x: f32) -> f32
     curve_table::lookup(&tables[a..a + POINTS], x)
 }
 
-fn lookup_differs(tables: &[f32], s: &[u8], at: usize) -> bool
-    requires { (3 * points ≤ length tables.now) × (at + 69 < 2 ^ 64) }
+fn lookup_differs(tables: &[f32], line: &[u8]) -> bool
+    requires { 3 * points ≤ length tables.now }
 {
-    let found = lookup_at(tables, word(s, at), number(s, at + 9));
-    !number::are_same(found, number(s, at + 18))
+    let found = lookup_at(tables, word(line, 0), number(line, 9));
+    !number::are_same(found, number(line, 18))
 }
 
-fn rate_differs(s: &[u8], at: usize) -> bool
-    requires { at + 69 < 2 ^ 64 }
-{
-    let found = slew::rate_per_sample(number(s, at), number(s, at + 9));
-    !number::are_same(found, number(s, at + 18))
+fn rate_differs(line: &[u8]) -> bool {
+    let found = slew::rate_per_sample(number(line, 0), number(line, 9));
+    !number::are_same(found, number(line, 18))
 }
 
-fn slew_differs(s: &[u8], at: usize) -> bool
-    requires { at + 69 < 2 ^ 64 }
-{
-    let steps = number(s, at + 36);
-    let up = slew::reach(number(s, at + 18), steps);
-    let down = slew::reach(number(s, at + 27), steps);
-    let found = slew::step(
-        up,
-        down,
-        number(s, at + 45),
-        number(s, at),
-        number(s, at + 9),
-    );
-    !number::are_same(found, number(s, at + 54))
+fn slew_differs(line: &[u8]) -> bool {
+    let steps = number(line, 36);
+    let up = slew::reach(number(line, 18), steps);
+    let down = slew::reach(number(line, 27), steps);
+    let found = slew::step(up, down, number(line, 45), number(line, 0), number(line, 9));
+    !number::are_same(found, number(line, 54))
 }
 
-fn draw_differs(s: &[u8], at: usize) -> bool
-    requires { at + 69 < 2 ^ 64 }
-{
-    let next = draw::step(hex_words::hex(s, at, 16));
-    if next != hex_words::hex(s, at + 17, 16) {
-        return true;
-    }
-    if draw::wrapping_mul(next, 2685821657736338717) != hex_words::hex(s, at + 34, 16) {
-        return true;
-    }
-    if draw::bits(next) != hex_words::hex(s, at + 51, 8) {
-        return true;
-    }
-    !number::are_same(draw::draw(next), number(s, at + 60))
+fn draw_differs(line: &[u8]) -> bool {
+    let next = draw::step(hex_words::hex(line, 0, 16));
+    next != hex_words::hex(line, 17, 16)
+        || draw::wrapping_mul(next, 2685821657736338717) != hex_words::hex(line, 34, 16)
+        || draw::bits(next) != hex_words::hex(line, 51, 8)
+        || !number::are_same(draw::draw(next), number(line, 60))
 }
 
-fn differs(list: Answers, tables: &[f32], s: &[u8], at: usize) -> bool
-    requires { (3 * points ≤ length tables.now) × (at + 69 < 2 ^ 64) }
+fn differs(list: List, tables: &[f32], line: &[u8]) -> bool
+    requires { 3 * points ≤ length tables.now }
 {
     match list {
-        Answers::Lookup => lookup_differs(tables, s, at),
-        Answers::Rate => rate_differs(s, at),
-        Answers::Slew => slew_differs(s, at),
-        Answers::Draw => draw_differs(s, at),
+        List::Lookup => lookup_differs(tables, line),
+        List::Rate => rate_differs(line),
+        List::Slew => slew_differs(line),
+        List::Draw => draw_differs(line),
     }
 }
 
@@ -128,15 +108,16 @@ fn one_if(b: bool) -> usize
 }
 
 // how many lines of a list differ from what the code answers
-pub fn count(list: Answers, tables: &[f32], s: &[u8]) -> usize
+pub fn count(list: List, tables: &[f32], s: &[u8]) -> usize
     requires { 3 * points ≤ length tables.now }
     ensures { result ≤ length s.now }
 {
     let w = width(list);
     let mut differ = 0usize;
     let mut at = 0usize;
+    // Not a for over chunks: the proof of its bound did not close.
     while w <= s.len() - at {
-        differ += one_if(differs(list, tables, s, at));
+        differ += one_if(differs(list, tables, &s[at..at + w]));
         at += w;
     }
     differ

@@ -8,7 +8,7 @@ ghost use Rattle.curve_table.specs.Table.{points};
 mod lines;
 
 use curve_table::POINTS;
-use lines::Answers;
+use lines::List;
 use std::fs::File;
 use std::io::Stdout;
 use std::{fs, io};
@@ -65,7 +65,7 @@ struct Tally {
 }
 
 // The next block of a list. A block holds whole lines of every width.
-fn next_block(file: &mut File, list: Answers, tables: &[f32]) -> Tally
+fn next_block(file: &mut File, list: List, tables: &[f32]) -> Tally
     requires { 3 * points ≤ length tables.now }
     ensures { (result.bytes ≤ 65205) × (result.differ ≤ 65205) }
 {
@@ -78,24 +78,22 @@ fn next_block(file: &mut File, list: Answers, tables: &[f32]) -> Tally
 }
 
 // A list of at most so many blocks.
-fn replay_file(stdout: Stdout, list: Answers, tables: &[f32], file: &mut File, name: &[u8])
+fn replay_file(stdout: Stdout, list: List, tables: &[f32], file: &mut File, name: &[u8])
     requires { 3 * points ≤ length tables.now }
 {
     let w = lines::width(list);
     let mut bytes = 0usize;
     let mut differ = 0usize;
-    let mut k = 0usize;
-    while k < BLOCKS {
+    for k in 0..BLOCKS {
         let block = next_block(file, list, tables);
         bytes += block.bytes;
         differ += block.differ;
-        k += 1usize;
     }
     print(stdout, name, bytes / w, differ);
 }
 
 // The list of a file.
-fn replay(rt: HostRuntime, list: Answers, tables: &[f32], path: &str, name: &[u8])
+fn replay(rt: HostRuntime, list: List, tables: &[f32], path: &str, name: &[u8])
     requires { 3 * points ≤ length tables.now }
 {
     match fs::open(&rt, path) {
@@ -106,8 +104,8 @@ fn replay(rt: HostRuntime, list: Answers, tables: &[f32], path: &str, name: &[u8
 
 fn main(rt: HostRuntime) {
     let t = tables(rt);
-    replay(rt, Answers::Lookup, &t, "lookup.txt", b"lookup: ");
-    replay(rt, Answers::Rate, &t, "rate.txt", b"rate: ");
-    replay(rt, Answers::Slew, &t, "slew.txt", b"slew: ");
-    replay(rt, Answers::Draw, &t, "draw.txt", b"draw: ");
+    replay(rt, List::Lookup, &t, "lookup.txt", b"lookup: ");
+    replay(rt, List::Rate, &t, "rate.txt", b"rate: ");
+    replay(rt, List::Slew, &t, "slew.txt", b"slew: ");
+    replay(rt, List::Draw, &t, "draw.txt", b"draw: ");
 }

@@ -1,18 +1,19 @@
 -- Laws that proofs cite in place of the definitions' text. Assumes nothing.
-use mathlib.Core.Path.{◌≡◌, sym, ◌∙◌}
-use mathlib.Core.Bool.{Bool, true, false, ◌&&◌}
-use mathlib.Core.List.{List, map}
-use Prim.Native.Nat.{ℕ, ◌+◌, ◌≤◌, ◌<◌}
-use native.Mathlib.Numerals.{add-one}
+use mathlib.Core.Path.{◌≡◌, refl, sym, ap, ◌∙◌}
+use mathlib.Core.Bool.{Bool, true, false, cond, not, ◌&&◌}
+use mathlib.Core.List.{List, [], ◌∷◌, map}
+use Prim.Native.Nat.{ℕ, ◌+◌, ◌<◌}
 use native.Mathlib.Omega.{arith}
-use lib.ListN.{length, get_or, drop, length-map, drop_of_length-le, get_or-map}
-use lib.Seq.{drop-cons}
+use lib.ListN.{length, get_or, length-map, get_or-map}
+use Rattle.std.specs.List.{list_all, count_by}
+use Rattle.std.proofs.lemmas.List.Sums.{sum_by-cons}
+use Rattle.std.specs.Prelude.{Option, None, Some, is_some}
 use Rattle.list.specs.Fill.{fill}
 use Rattle.list.proofs.Elements.{get_or-inside}
 use Rattle.list.proofs.Filled.{fill_is}
 use Rattle.state.specs.declared.Slot.{Slot}
 use Rattle.state.specs.declared.Target.{Target}
-use Rattle.slots.specs.Slots.{empty_slot, is_empty_slot, numbers_finite, all_finite, first_empty, aims_at, one_if, cleared, count_aims}
+use Rattle.slots.specs.Slots.{empty_slot, no_source, no_destination, is_empty_slot, numbers_finite, all_finite, first_empty, aims_at, one_if, cleared, count_aims}
 
 -- ---- tests
 
@@ -22,35 +23,40 @@ one-if-true h = rw h
 pub one-if-false : {b : Bool} → b ≡ false → 0 ≡ one_if b
 one-if-false h = rw h
 
--- ---- what a walk over the slots finds from slot i on
+-- ---- the library's test for none
 
-pub empty-from : (l : List Slot) (i : ℕ) (d : Slot) → i < length l → is_empty_slot (get_or l i d) ≡ true → first_empty (drop i l) ≡ 0
+no-source-is : (p : Option ℕ) → no_source p ≡ not (is_some p)
+no-source-is None = refl
+no-source-is (Some n) = refl
+
+no-destination-is : (p : Option Target) → no_destination p ≡ not (is_some p)
+no-destination-is None = refl
+no-destination-is (Some t) = refl
+
+pub empty_is : (s : Slot) → is_empty_slot s ≡ not (is_some s.source) && not (is_some s.destination)
+unfolding is_empty_slot
+empty_is s = rw (no-source-is s.source, no-destination-is s.destination)
+
+-- ---- what a walk over the slots finds
+
+pub empty-more : (s : Slot) (l : List Slot) → first_empty (s ∷ l) ≡ cond (is_empty_slot s) 0 (1 + first_empty l)
 unfolding first_empty
-empty-from l i d h e = rw (drop-cons l i d) (rw e)
+empty-more s l = ap (λ n. cond (is_empty_slot s) 0 n) (omega arith)
 
-pub more-from : (l : List Slot) (i : ℕ) (d : Slot) → i < length l → is_empty_slot (get_or l i d) ≡ false → first_empty (drop i l) ≡ 1 + first_empty (drop (i + 1) l)
+pub empty-none : first_empty [] ≡ 0
 unfolding first_empty
-more-from l i d h e = rw (add-one, drop-cons l i d, e) (omega arith)
+empty-none = refl
 
-pub empty-past : (l : List Slot) (i : ℕ) → length l ≤ i → first_empty (drop i l) ≡ 0
-unfolding first_empty
-empty-past l i h = rw drop_of_length-le
-
-pub count-from : (t : Target) (l : List Slot) (i : ℕ) (d : Slot) (w : ℕ) → i < length l → w ≡ one_if (aims_at t (get_or l i d).destination) → count_aims t (drop i l) ≡ w + count_aims t (drop (i + 1) l)
+pub count_aims_by : (t : Target) (l : List Slot) → count_by (λ s. aims_at t s.destination) l ≡ count_aims t l
 unfolding count_aims
-count-from t l i d w h e = rw (add-one, drop-cons l i d, e)
+count_aims_by t [] = refl
+count_aims_by t (s ∷ l) =
+    sum_by-cons (λ (x : Slot). one_if (aims_at t x.destination)) s l ∙ ap (λ n. one_if (aims_at t s.destination) + n) (count_aims_by t l)
 
-pub count_past : (t : Target) (l : List Slot) (i : ℕ) → length l ≤ i → count_aims t (drop i l) ≡ 0
-unfolding count_aims
-count_past t l i h = rw drop_of_length-le
-
-pub finite-from : (l : List Slot) (i : ℕ) (d : Slot) → i < length l → all_finite (drop i l) ≡ (numbers_finite (get_or l i d) && all_finite (drop (i + 1) l))
+pub all_finite_all : (l : List Slot) → list_all numbers_finite l ≡ all_finite l
 unfolding all_finite
-finite-from l i d h = rw (add-one, drop-cons l i d)
-
-pub finite-past : (l : List Slot) (i : ℕ) → length l ≤ i → all_finite (drop i l) ≡ true
-unfolding all_finite
-finite-past l i h = rw drop_of_length-le
+all_finite_all [] = refl
+all_finite_all (s ∷ l) = ap (λ b. numbers_finite s && b) (all_finite_all l)
 
 -- ---- clearing
 

@@ -7,11 +7,8 @@ use Rattle.curve_table.specs.Curve.{seconds_finite}
 use Rattle.curve_table.specs.declared.Curve.{Curve}
 use Rattle.curve_table.specs.declared.Curve.TheVariants as C
 use Rattle.state.specs.Registry.{same_target}
-use Rattle.state.specs.declared.Pick.{Pick}
-use Rattle.state.specs.declared.Pick.TheVariants as P
+use Rattle.std.specs.Prelude.{Option, None, Some}
 use Rattle.state.specs.declared.Target.{Target}
-use Rattle.state.specs.declared.Aim.{Aim}
-use Rattle.state.specs.declared.Aim.TheVariants as A
 use Rattle.state.specs.declared.Polarity.{Polarity}
 use Rattle.state.specs.declared.Polarity.TheVariants as L
 use Rattle.state.specs.declared.Slot.{Slot}
@@ -23,25 +20,25 @@ use Rattle.state.specs.declared.Slot.{Slot}
 unfoldable pub empty_slot : Slot
 empty_slot =
     record {
-      source = P.Nothing;
+      source = None;
       source_curve = C.Linear;
       amount = zero32;
       polarity = L.Unipolar;
-      destination = A.Nothing;
-      aux = P.Nothing;
+      destination = None;
+      aux = None;
       aux_invert = false;
       aux_curve = C.Linear;
       output = one32;
       bypass = false;
     }
 
-abbrev pub no_source : Pick → Bool
-no_source P.Nothing = true
-no_source (P.Source n) = false
+abbrev pub no_source : Option ℕ → Bool
+no_source None = true
+no_source (Some n) = false
 
-abbrev pub no_destination : Aim → Bool
-no_destination A.Nothing = true
-no_destination (A.At t) = false
+abbrev pub no_destination : Option Target → Bool
+no_destination None = true
+no_destination (Some t) = false
 
 -- neither source nor destination (matrix.rs 77-79)
 unfoldable pub is_empty_slot : Slot → Bool
@@ -51,12 +48,12 @@ is_empty_slot s = no_source s.source && no_destination s.destination
 unfoldable pub route_slot : ℕ → Target → Float → Polarity → Slot
 route_slot n t x p =
     record {
-      source = P.Source n;
+      source = Some n;
       source_curve = C.Linear;
       amount = x;
       polarity = p;
-      destination = A.At t;
-      aux = P.Nothing;
+      destination = Some t;
+      aux = None;
       aux_invert = false;
       aux_curve = C.Linear;
       output = one32;
@@ -77,9 +74,9 @@ kept_output x = clamp_to zero32 one32 x
 
 -- ---- a slot's destination
 
-abbrev pub aims_at : Target → Aim → Bool
-aims_at t A.Nothing = false
-aims_at t (A.At u) = same_target u t
+abbrev pub aims_at : Target → Option Target → Bool
+aims_at t None = false
+aims_at t (Some u) = same_target u t
 
 -- the slot, or the empty slot where it modulates t (matrix.rs 227-236)
 unfoldable pub cleared : Target → Slot → Slot
@@ -147,7 +144,7 @@ with_polarity p s =
       bypass = s.bypass;
     }
 
-unfoldable pub with_aux : Pick → Bool → Slot → Slot
+unfoldable pub with_aux : Option ℕ → Bool → Slot → Slot
 with_aux p b s =
     record {
       source = s.source;

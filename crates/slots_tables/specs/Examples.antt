@@ -8,8 +8,7 @@ use Rattle.number.specs.Number.{zero32, one32, finite}
 use Rattle.curve_table.specs.Table.{allowed, all_allowed}
 use Rattle.curve_table.specs.declared.Curve.{Curve}
 use Rattle.curve_table.specs.declared.Curve.TheVariants as C
-use Rattle.state.specs.declared.Pick.TheVariants as P
-use Rattle.state.specs.declared.Aim.TheVariants as A
+use Rattle.std.specs.Prelude.{None}
 use Rattle.state.specs.declared.Polarity.TheVariants as L
 use Rattle.state.specs.declared.NoteCurve.{NoteCurve}
 use Rattle.state.specs.declared.NoteCurve.TheVariants as N
@@ -22,12 +21,12 @@ use Rattle.slots_tables.specs.Tables.{named_allowed}
 curved : Curve → Curve → Slot
 curved s a =
     record {
-      source = P.Nothing;
+      source = None;
       source_curve = s;
       amount = zero32;
       polarity = L.Unipolar;
-      destination = A.Nothing;
-      aux = P.Nothing;
+      destination = None;
+      aux = None;
       aux_invert = false;
       aux_curve = a;
       output = one32;

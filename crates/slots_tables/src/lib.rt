@@ -4,6 +4,7 @@
 
 ghost use Rattle.std.specs.Prelude.{◌≡◌, not, [], ◌∷◌, ◌≤◌, ◌<◌, eqb, ltb, length};
 ghost use Rattle.refusal.specs.Judge.{judged, ◌when◌};
+ghost use Rattle.refusal.specs.Refusal.{code_of};
 ghost use Rattle.config.specs.Sizes.{slots};
 ghost use Rattle.curve_table.specs.Table.{points};
 ghost use Rattle.slots_tables.specs.Rows.{finite_row, curve_allowed};
@@ -13,6 +14,7 @@ ghost use Rattle.slots_tables.specs.Tables.{slot_allowed, slots_allowed, named_a
 
 use config::SLOTS;
 use curve_table::POINTS;
+use refusal::Refusal;
 use state::{Matrix, NoteCurve, Slot};
 
 // two places a slot, then the velocity curve's and the key curve's
@@ -38,51 +40,34 @@ pub fn slot_place(n: usize, position: usize) -> usize
 fn is_table(curve: NoteCurve) -> bool
     ensures { result ≡ is_table curve }
 {
-    match curve {
-        NoteCurve::Linear => false,
-        NoteCurve::Table => true,
-    }
+    curve == NoteCurve::Table
 }
 
+#[tactic(auto, unfolding(crate::specs::Tables::slot_names))]
 fn slot_names(slot: Slot) -> bool
     ensures { result ≡ slot_names slot }
 {
-    let source_curve = slot.source_curve;
-    if !curve_table::is_linear(source_curve) {
-        return true;
-    }
-    let aux_curve = slot.aux_curve;
-    !curve_table::is_linear(aux_curve)
+    !curve_table::is_linear(slot.source_curve) || !curve_table::is_linear(slot.aux_curve)
 }
 
 fn any_names(slot: [Slot; SLOTS]) -> bool
     ensures { result ≡ any_names slot }
 {
-    let mut i = 0usize;
-    while i < SLOTS {
+    for i in 0..SLOTS {
         let s = slot[i];
         if slot_names(s) {
             return true;
         }
-        i += 1usize;
     }
     false
 }
 
 // whether a curve of the matrix is a table
+#[tactic(auto, unfolding(crate::specs::Tables::names_table))]
 pub fn names_table(matrix: Matrix) -> bool
     ensures { result ≡ names_table matrix }
 {
-    let velocity = matrix.velocity;
-    if is_table(velocity) {
-        return true;
-    }
-    let key = matrix.key;
-    if is_table(key) {
-        return true;
-    }
-    let slot = matrix.slot;
-    any_names(slot)
+    is_table(matrix.velocity) || is_table(matrix.key) || any_names(matrix.slot)
 }
 
 // ---- writing tables
@@ -131,87 +116,58 @@ fn allowed_where(named: bool, tables: &[f32], place: usize) -> bool
     requires { place < places }
     ensures { result ≡ allowed_where named tables.now place }
 {
-    if !named {
-        return true;
-    }
-    place_allowed(tables, place)
+    !named || place_allowed(tables, place)
 }
 
 // the two places of slot n
+#[tactic(auto, unfolding(crate::specs::Tables::slot_allowed))]
 fn slot_allowed(tables: &[f32], n: usize, slot: Slot) -> bool
     requires { n < slots }
     ensures { result ≡ slot_allowed tables.now n slot }
 {
-    let source_curve = slot.source_curve;
-    if !allowed_where(
-        !curve_table::is_linear(source_curve),
-        tables,
-        slot_place(n, 0),
-    ) {
-        return false;
-    }
-    let aux_curve = slot.aux_curve;
-    allowed_where(!curve_table::is_linear(aux_curve), tables, slot_place(n, 1))
+    let source = !curve_table::is_linear(slot.source_curve);
+    let aux = !curve_table::is_linear(slot.aux_curve);
+    allowed_where(source, tables, slot_place(n, 0)) && allowed_where(aux, tables, slot_place(n, 1))
 }
 
 fn slots_allowed(tables: &[f32], slot: [Slot; SLOTS]) -> bool
     ensures { result ≡ slots_allowed tables.now 0 slot }
 {
-    let mut i = 0usize;
-    while i < SLOTS {
+    for i in 0..SLOTS {
         let s = slot[i];
         if !slot_allowed(tables, i, s) {
             return false;
         }
-        i += 1usize;
     }
     true
 }
 
 // whether a table may hold every number of a named place, as far as the slice reaches
+#[tactic(auto, unfolding(crate::specs::Tables::named_allowed))]
 pub fn named_allowed(matrix: Matrix, tables: &[f32]) -> bool
     ensures { result ≡ named_allowed matrix tables.now }
 {
-    let velocity = matrix.velocity;
-    if !allowed_where(is_table(velocity), tables, VELOCITY_PLACE) {
-        return false;
-    }
-    let key = matrix.key;
-    if !allowed_where(is_table(key), tables, KEY_PLACE) {
-        return false;
-    }
-    let slot = matrix.slot;
-    slots_allowed(tables, slot)
+    allowed_where(is_table(matrix.velocity), tables, VELOCITY_PLACE)
+        && allowed_where(is_table(matrix.key), tables, KEY_PLACE)
+        && slots_allowed(tables, matrix.slot)
 }
 
 // ---- rows of one lent table
 
 // rows 6, 14 and 15 of a lent table
-pub fn rows_of_table(allowed: bool, tables: usize, table: usize) -> u8
-    ensures { result ≡ judged (finite_row allowed ∷ 14 when ltb tables tables_need ∷ 15 when not (eqb table points)
-        ∷ []) }
+pub fn check_table(allowed: bool, tables: usize, table: usize) -> Result<(), Refusal>
+    ensures { code_of result ≡ judged (finite_row allowed ∷ 14 when ltb tables tables_need
+        ∷ 15 when not (eqb table points) ∷ []) }
 {
-    if !allowed {
-        return 6;
-    }
-    if tables < TABLES {
-        return 14;
-    }
-    if table != POINTS {
-        return 15;
-    }
-    0
+    refusal::when(!allowed, Refusal::Number)?;
+    refusal::when(tables < TABLES, Refusal::Memory)?;
+    refusal::when(table != POINTS, Refusal::Length)
 }
 
 // whether a curve may hold the table's numbers and the seconds
+#[tactic(auto, unfolding(crate::specs::Rows::curve_allowed))]
 pub fn curve_allowed(table: &[f32], rise: f32, fall: f32) -> bool
     ensures { result ≡ curve_allowed table.now rise fall }
 {
-    if !curve_table::numbers_allowed(table) {
-        return false;
-    }
-    if !number::is_finite(rise) {
-        return false;
-    }
-    number::is_finite(fall)
+    curve_table::numbers_allowed(table) && number::is_finite(rise) && number::is_finite(fall)
 }

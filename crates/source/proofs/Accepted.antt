@@ -7,11 +7,15 @@ use native.Mathlib.Omega.{arith}
 use lib.Dec.{ltb}
 use lib.ListN.{length}
 use borrow.Author.Tests.{ltb-false, ne_eqb}
+use Rattle.std.specs.Prelude.{Err}
 use Rattle.refusal.specs.Judge.{judged}
+use Rattle.refusal.specs.Refusal.{number_of}
+use Rattle.refusal.specs.declared.Refusal.{Refusal}
+use Rattle.refusal.proofs.Laws.{number-above}
 use Rattle.config.specs.Sizes.{most_sources}
 use Rattle.source.specs.declared.Counts.{Counts}
 use Rattle.source.specs.Registry.{no_sources}
-use Rattle.source.specs.Standard.{all_sources, audio_keys, total, any_long, clashes, standard_count, standard_rows, standard_sources}
+use Rattle.source.specs.Standard.{all_sources, audio_keys, total, any_long, clashes, standard_count, standard_rows, made_said, standard_sources}
 
 -- what the rows leave: few enough entries, and keys that lie inside the bytes and are short
 pub record Standing (n : Counts) (bytes lengths : List ℕ) : Type 0 where
@@ -47,6 +51,12 @@ module _ (n : Counts) (bytes lengths : List ℕ) where
   pub standard-refuses : (judged (standard_rows n bytes lengths) ≡ 0 → ⊥) → standard_sources n bytes lengths ≡ record { code = judged (standard_rows n bytes lengths); sources = no_sources }
   unfolding standard_sources
   standard-refuses h = rw (ne_eqb (judged (standard_rows n bytes lengths)) 0 h)
+
+  -- as a Result says it
+  pub standard-refuses-by : (r : Refusal) → number_of r ≡ judged (standard_rows n bytes lengths) → standard_sources n bytes lengths ≡ made_said (Err r)
+  unfolding standard_sources
+  standard-refuses-by r h =
+      rw (ne_eqb (judged (standard_rows n bytes lengths)) 0 (λ z. omega (arith, number-above r)), h)
 
   pub standard-accepts : judged (standard_rows n bytes lengths) ≡ 0 → standard_sources n bytes lengths ≡ record { code = 0; sources = all_sources n (audio_keys bytes lengths) }
   unfolding standard_sources

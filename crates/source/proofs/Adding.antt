@@ -1,32 +1,35 @@
 -- What `add_source` does: a refusal leaves the registry; an accepted entry stands after the others, and its key is found there.
 -- Assumes nothing.
-use mathlib.Core.Path.{◌≡◌, refl, ap, ◌∙◌}
+use mathlib.Core.Path.{◌≡◌, refl, sym, ap, ◌∙◌}
 use mathlib.Core.Bool.{Bool, true, false, cond}
 use mathlib.Core.List.{List, [], ◌∷◌, ◌++◌}
 use Prim.Native.Nat.{ℕ, zero, suc, ◌+◌, ◌-◌, ◌≤◌, ◌<◌, min}
 use native.Mathlib.Omega.{arith}
+use Rattle.std.specs.Prelude.{Option, Some, is_some, Ok, Err}
 use lib.Dec.{leb, ltb}
 use lib.ListN.{length, replicate}
 use lib.Seq.{take-suc-set, take-append_seam}
 use borrow.Author.Tests.{ltb-false, leb-false, le-ltb, lt-leb}
 use Rattle.refusal.specs.Judge.{judged}
+use Rattle.refusal.specs.Refusal.{number_of}
+use Rattle.refusal.specs.declared.Refusal.{Refusal}
+use Rattle.refusal.proofs.Laws.{number-above}
 use Rattle.config.specs.Sizes.{most_sources}
 use Rattle.state.specs.declared.Kind.{Kind}
 use Rattle.state.specs.declared.Scope.{Scope}
 use Rattle.state.specs.declared.Range.{Range}
 use Rattle.state.specs.declared.Source.{Source}
 use Rattle.state.specs.declared.Sources.{Sources}
-use Rattle.source.specs.declared.SourceFound.TheVariants as F
 use Rattle.source.specs.Keys.{most_key_bytes, key_of, key_is, key_array}
 use Rattle.source_key.specs.Bytes.{same_bytes}
 use Rattle.state.specs.Registry.{source_count}
-use Rattle.source.specs.Registry.{registered, find_key, is_at, find_source, add_rows, new_entry, with_entry, added_or, add_source}
+use Rattle.source.specs.Registry.{registered, find_key, find_source, add_rows, new_entry, with_entry, added_or, added_said, add_source}
 use Rattle.source_key.proofs.Bytes.{same_self}
 use Rattle.source.proofs.Registry.{registered-length, find-after, find-others}
 
 -- a key that may be added: no entry has it, there is room for an entry, and the entry has room for it
 pub record Addable (s : Sources) (key : List ℕ) : Type 0 where
-  pub fresh : is_at (find_key 0 key (registered s)) ≡ false
+  pub fresh : is_some (find_key 0 key (registered s)) ≡ false
   pub room : source_count s < most_sources
   pub short : length key ≤ most_key_bytes
 
@@ -39,7 +42,7 @@ none-applies true b c h = absurd (omega arith)
 pub addable : (s : Sources) (key : List ℕ) → judged (add_rows s key) ≡ 0 → Addable s key
 unfolding judged
 addable s key h =
-    let f = none-applies (is_at (find_key 0 key (registered s))) (leb most_sources (source_count s)) (ltb most_key_bytes (length key)) h in
+    let f = none-applies (is_some (find_key 0 key (registered s))) (leb most_sources (source_count s)) (ltb most_key_bytes (length key)) h in
     record {
       fresh = f.0;
       room = leb-false most_sources (source_count s) f.1;
@@ -61,6 +64,12 @@ module _ (s : Sources) (key : List ℕ) (kind : Kind) (scope : Scope) (range : R
   unfolding add_source
   add-refuses h = added-refused (judged (add_rows s key)) s (new_entry key kind scope range) h
 
+  -- as a Result says it
+  pub add-refuses-by : (r : Refusal) → number_of r ≡ judged (add_rows s key) → add_source s key kind scope range ≡ added_said s (Err r)
+  add-refuses-by r h =
+      let pos : 0 < number_of r = number-above r in
+      add-refuses (λ z. omega arith) ∙ rw (sym h) refl
+
   pub add-accepts : judged (add_rows s key) ≡ 0
       → add_source s key kind scope range ≡ record { code = 0; id = source_count s; sources = with_entry s (new_entry key kind scope range) }
   unfolding add_source
@@ -80,13 +89,13 @@ registered-with s e l r =
     let n : min (source_count s + 1) most_sources ≡ suc (source_count s) = omega arith in
     rw n (take-suc-set s.entry (source_count s) e (omega arith))
 
-found-short : (s : Sources) (key : List ℕ) → length key ≤ most_key_bytes → find_source s key ≡ find_key 0 key (registered s)
+found-short : (s : Sources) (key : List ℕ) → length key ≤ most_key_bytes → find_source s key ≡ Ok (find_key 0 key (registered s))
 unfolding find_source judged
 found-short s key h = rw (le-ltb most_key_bytes (length key) h)
 
 module _ (s : Sources) (key : List ℕ) (kind : Kind) (scope : Scope) (range : Range) (full-length : length s.entry ≡ most_sources) (accepted : judged (add_rows s key) ≡ 0) where
   -- an accepted key is found at the old count
-  pub add-found : find_source (add_source s key kind scope range).sources key ≡ F.At (source_count s)
+  pub add-found : find_source (add_source s key kind scope range).sources key ≡ Ok (Some (source_count s))
   unfolding find_key key_is
   add-found =
       let e = new_entry key kind scope range in
@@ -95,8 +104,8 @@ module _ (s : Sources) (key : List ℕ) (kind : Kind) (scope : Scope) (range : R
       let at : 0 + length (registered s) ≡ source_count s = omega (arith, registered-length s full-length) in
       rw (add-accepts s key kind scope range accepted)
       (found-short (with_entry s e) key ok.short
-      ∙ ap (find_key 0 key) (registered-with s e full-length ok.room)
-      ∙ find-after 0 key (registered s) (e ∷ []) ok.fresh
+      ∙ ap (λ (es : List Source). Ok (find_key 0 key es)) (registered-with s e full-length ok.room)
+      ∙ ap (λ (f : Option ℕ). Ok f) (find-after 0 key (registered s) (e ∷ []) ok.fresh)
       ∙ rw (at, has))
 
   -- every other key is found where it was, or not at all

@@ -1,5 +1,5 @@
 -- The audio keys, one after the other, and their lengths, as a loop goes along them. Assumes nothing.
-use mathlib.Core.Path.{◌≡◌, refl, sym, ◌∙◌}
+use mathlib.Core.Path.{◌≡◌, refl, sym, ap, ◌∙◌}
 use mathlib.Core.Bool.{Bool, true, false, ◌||◌}
 use mathlib.Core.List.{List, [], ◌∷◌}
 use Prim.Native.Nat.{ℕ, ◌+◌, ◌-◌, ◌≤◌, ◌<◌}
@@ -10,6 +10,7 @@ use lib.Dec.{ltb}
 use lib.ListN.{length, get_or, drop, length-drop, drop_of_length-le}
 use lib.Seq.{drop-cons, drop-drop}
 use borrow.Author.Tests.{ltb-false, lt-ltb, le-ltb, le-leb, lt-leb}
+use Rattle.std.specs.List.{list_any}
 use Rattle.list.specs.Part.{part}
 use Rattle.state.specs.declared.Sources.{Sources}
 use Rattle.source.specs.declared.Counts.{Counts}
@@ -131,9 +132,11 @@ module _ (lengths : List ℕ) (i : ℕ) where
   unfolding any_long
   long-next h = rw (add-one, drop-cons lengths i 0 h)
 
-  pub long-past : length lengths ≤ i → any_long (drop i lengths) ≡ false
-  unfolding any_long
-  long-past h = rw (drop_of_length-le lengths h)
+-- the library's search for a length above 32
+pub long-any : (ns : List ℕ) → list_any (ltb most_key_bytes) ns ≡ any_long ns
+unfolding any_long
+long-any [] = refl
+long-any (n ∷ ns) = ap (λ (t : Bool). ltb most_key_bytes n || t) (long-any ns)
 
 none : (a b : Bool) → (a || b) ≡ false → (a ≡ false) × (b ≡ false)
 none true b h = let z : ◌≡◌ {A = ℕ} 0 1 = cc in absurd (omega arith)

@@ -7,26 +7,26 @@ use Prim.Native.Nat.{ℕ, zero, suc, ◌+◌, ◌≤◌, ◌<◌, min}
 use native.Mathlib.Nat.{add-zero, le_of_suc-le-suc}
 use native.Mathlib.Numerals.{add-one}
 use native.Mathlib.Omega.{arith}
-use lib.Dec.{eqb}
+use Rattle.std.specs.Prelude.{Option, Some, None, is_some, Result, Ok}
+use lib.Dec.{eqb, ltb}
 use lib.ListN.{length, get_or, take, drop, drop_of_length-le}
 use lib.Seq.{drop-cons, length-take-le, get_or-take}
 use borrow.Author.Tests.{ne_eqb}
 use Rattle.list.proofs.Bools.{which}
 use Rattle.list.proofs.Elements.{get_or-inside}
-use Rattle.refusal.specs.Judge.{judged}
-use Rattle.reply.specs.Reply.{accepts, refuses, by_rows}
+use Rattle.refusal.specs.Judge.{◌when◌, judged}
+use Rattle.refusal.specs.declared.Refusal.{Refusal}
+use Rattle.reply.specs.Reply.{accepts, by_rows}
 use Rattle.config.specs.Sizes.{most_sources}
 use Rattle.state.specs.declared.Kind.TheVariants as K
 use Rattle.state.specs.declared.Scope.TheVariants as S
 use Rattle.state.specs.declared.Range.TheVariants as R
 use Rattle.state.specs.declared.Source.{Source}
 use Rattle.state.specs.declared.Sources.{Sources}
-use Rattle.source.specs.declared.SourceFound.{SourceFound}
-use Rattle.source.specs.declared.SourceFound.TheVariants as F
 use Rattle.source.specs.Keys.{most_key_bytes, key_is}
 use Rattle.source.proofs.Keys.{key-too-long}
 use Rattle.state.specs.Registry.{source_count}
-use Rattle.source.specs.Registry.{registered, find_key, is_at, found_reply, find_rows, found_or, find_source, places_of, found_says}
+use Rattle.source.specs.Registry.{registered, find_key, found_reply, found_or, find_source, places_of, found_says}
 
 -- ---- the entries
 
@@ -51,7 +51,7 @@ registered-at s i d e l h = get_or-take (source_count s) s.entry i d h ∙ get_o
 
 -- ---- finding
 
-pub find-here : (key : List ℕ) (es : List Source) (i : ℕ) (d : Source) → i < length es → key_is key (get_or es i d) ≡ true → find_key i key (drop i es) ≡ F.At i
+pub find-here : (key : List ℕ) (es : List Source) (i : ℕ) (d : Source) → i < length es → key_is key (get_or es i d) ≡ true → find_key i key (drop i es) ≡ Some i
 unfolding find_key
 find-here key es i d h k = rw (drop-cons es i d h, k)
 
@@ -60,7 +60,7 @@ pub find-next : (key : List ℕ) (es : List Source) (i : ℕ) (d : Source) → i
 unfolding find_key
 find-next key es i d h k = rw (add-one, drop-cons es i d h, k)
 
-pub find_past : (key : List ℕ) (es : List Source) (i : ℕ) → length es ≤ i → find_key i key (drop i es) ≡ F.Nothing
+pub find_past : (key : List ℕ) (es : List Source) (i : ℕ) → length es ≤ i → find_key i key (drop i es) ≡ None
 unfolding find_key
 find_past key es i h = rw (drop_of_length-le es h)
 
@@ -68,13 +68,13 @@ find_past key es i h = rw (drop_of_length-le es h)
 pub find-others : (n : ℕ) (key : List ℕ) (es : List Source) (e : Source) → key_is key e ≡ false → find_key n key (es ++ (e ∷ [])) ≡ find_key n key es
 unfolding find_key
 find-others n key [] e h = rw h
-find-others n key (x ∷ es) e h = ap (λ (r : SourceFound). cond (key_is key x) (F.At n) r) (find-others (suc n) key es e h)
+find-others n key (x ∷ es) e h = ap (λ (r : Option ℕ). cond (key_is key x) (Some n) r) (find-others (suc n) key es e h)
 
 no : true ≡ false → ⊥
 no h = let z : ◌≡◌ {A = ℕ} 0 1 = cc in omega arith
 
 -- where none has the key, the search goes on in what follows
-pub find-after : (n : ℕ) (key : List ℕ) (es fs : List Source) → is_at (find_key n key es) ≡ false → find_key n key (es ++ fs) ≡ find_key (n + length es) key fs
+pub find-after : (n : ℕ) (key : List ℕ) (es fs : List Source) → is_some (find_key n key es) ≡ false → find_key n key (es ++ fs) ≡ find_key (n + length es) key fs
 unfolding find_key
 find-after n key [] fs h = ap (λ (m : ℕ). find_key m key fs) (sym (add-zero n))
 find-after n key (e ∷ es) fs h =
@@ -87,7 +87,7 @@ find-after n key (e ∷ es) fs h =
     (which (key_is key e))
 
 -- a key above 32 bytes is found nowhere
-pub find-too-long : (n : ℕ) (key : List ℕ) (es : List Source) → most_key_bytes < length key → find_key n key es ≡ F.Nothing
+pub find-too-long : (n : ℕ) (key : List ℕ) (es : List Source) → most_key_bytes < length key → find_key n key es ≡ None
 unfolding find_key
 find-too-long n key [] h = refl
 find-too-long n key (e ∷ es) h = rw (key-too-long key e h) (find-too-long (suc n) key es h)
@@ -109,13 +109,13 @@ first_tail key e es i y f = record { inside = omega (arith, f.inside); has = λ 
     before (suc j) d h = f.none_before j d (le_of_suc-le-suc h)
 
 -- what is found is the first that has the key
-find_first : (n : ℕ) (key : List ℕ) (es : List Source) (i : ℕ) → find_key n key es ≡ F.At i → (k : ℕ) × (i ≡ n + k) × FirstWith key es k
+find_first : (n : ℕ) (key : List ℕ) (es : List Source) (i : ℕ) → find_key n key es ≡ Some i → (k : ℕ) × (i ≡ n + k) × FirstWith key es k
 unfolding find_key
 find_first n key [] i h = let z : ◌≡◌ {A = ℕ} 0 1 = cc in absurd (omega arith)
 find_first n key (e ∷ es) i h =
     ⊎_elim
     (λ y.
-    let at : F.At n ≡ F.At i = rw y at h in
+    let at : Some n ≡ Some i = rw y at h in
     let same : n ≡ i = cc in
     (0, omega arith, first_head key e es y))
     (λ y.
@@ -124,7 +124,7 @@ find_first n key (e ∷ es) i h =
     (suc rest.0, omega arith, first_tail key e es rest.0 y rest.2))
     (which (key_is key e))
 
-pub found_first : (key : List ℕ) (es : List Source) (i : ℕ) → find_key 0 key es ≡ F.At i → FirstWith key es i
+pub found_first : (key : List ℕ) (es : List Source) (i : ℕ) → find_key 0 key es ≡ Some i → FirstWith key es i
 found_first key es i h =
     let f = find_first 0 key es i h in
     let same : f.0 ≡ i = omega (arith, f.1) in
@@ -132,22 +132,23 @@ found_first key es i h =
 
 -- ---- what an answer says
 
-found-if : (b : Bool) (n : ℕ) (f : SourceFound) (ns : List ℕ) → found_reply f ≡ accepts (take 1 ns) → found_reply (cond b (F.At n) f) ≡ accepts (take 1 (cond b (n ∷ ns) ns))
+found-if : (b : Bool) (n : ℕ) (f : Option ℕ) (ns : List ℕ) → found_reply (Ok f) ≡ accepts (take 1 ns) → found_reply (Ok (cond b (Some n) f)) ≡ accepts (take 1 (cond b (n ∷ ns) ns))
 found-if true n f ns h = refl
 found-if false n f ns h = h
 
-found_from : (n : ℕ) (key : List ℕ) (es : List Source) → found_reply (find_key n key es) ≡ accepts (take 1 (places_of n key es))
+found_from : (n : ℕ) (key : List ℕ) (es : List Source) → found_reply (Ok (find_key n key es)) ≡ accepts (take 1 (places_of n key es))
 unfolding find_key
 found_from n key [] = refl
 found_from n key (e ∷ es) =
     found-if (key_is key e) n (find_key (suc n) key es) (places_of (suc n) key es) (found_from (suc n) key es)
 
-or-says : (n : ℕ) (f : SourceFound) (ns : List ℕ) → found_reply f ≡ accepts ns → found_reply (found_or n f) ≡ cond (eqb n 0) (accepts ns) (refuses n)
-or-says zero f ns h = h
-or-says (suc n) f ns h = rw (ne_eqb (suc n) 0 (λ e. omega arith))
+or-says : (t : Bool) (f : Option ℕ) (ns : List ℕ) → found_reply (Ok f) ≡ accepts ns → found_reply (found_or (judged (15 when t ∷ [])) f) ≡ by_rows (15 when t ∷ []) ns
+unfolding judged by_rows
+or-says true f ns h = refl
+or-says false f ns h = h
 
 -- `find`: the answer, and what it says
-pub find-said : (s : Sources) (key : List ℕ) (r : SourceFound) → r ≡ find_source s key → (r ≡ find_source s key) × (found_reply r ≡ found_says s key)
-unfolding find_source found_says by_rows
+pub find-said : (s : Sources) (key : List ℕ) (r : Result (Option ℕ) Refusal) → r ≡ find_source s key → (r ≡ find_source s key) × (found_reply r ≡ found_says s key)
+unfolding find_source found_says
 find-said s key r h =
-    (h, rw h (or-says (judged (find_rows key)) (find_key 0 key (registered s)) _ (found_from 0 key (registered s))))
+    (h, rw h (or-says (ltb most_key_bytes (length key)) (find_key 0 key (registered s)) _ (found_from 0 key (registered s))))

@@ -1,18 +1,17 @@
 -- The definitions on small examples. The registries here have 4 places, whatever their count.
-use Rattle.std.specs.Prelude.{◌≡◌, refl, true, false, List, [], ◌∷◌, ℕ, replicate}
+use Rattle.std.specs.Prelude.{◌≡◌, refl, true, false, List, [], ◌∷◌, ℕ, replicate, Some, None, Ok, Err}
 use Rattle.refusal.specs.Judge.{judged}
+use Rattle.refusal.specs.declared.Refusal.TheVariants.{Length}
 use Rattle.state.specs.declared.Kind.TheVariants as K
 use Rattle.state.specs.declared.Scope.TheVariants as S
 use Rattle.state.specs.declared.Range.TheVariants as R
 use Rattle.state.specs.declared.Source.{Source}
 use Rattle.state.specs.declared.Sources.{Sources}
-use Rattle.source.specs.declared.SourceAdded.{SourceAdded}
-use Rattle.source.specs.declared.SourceFound.TheVariants as F
 use Rattle.source.specs.Keys.{key_of, key_is, key_array}
 use Rattle.source_key.specs.Bytes.{same_bytes}
 use Rattle.state.specs.Registry.{no_source as blankEntry, source_count}
 use Rattle.source.specs.Registry.{sources_empty, registered, get_source, find_key, find_source, new_entry, with_entry}
-use Rattle.source.specs.Registry.{add_source}
+use Rattle.source.specs.Registry.{SourceAdded, add_source}
 use Rattle.source.specs.Info.{engine_owned, usual_info, info_voice, info_global, info_bipolar}
 
 -- "lfo", "lf", "lf1", and a key of n times "a"
@@ -62,14 +61,14 @@ counts : (source_count (with-count 2) ≡ 2) × (source_count (with-count 128) �
     × (sources_empty (with-count 0) ≡ true) × (sources_empty (with-count 900) ≡ false)
 counts = (refl, refl, refl, refl, refl)
 
-got : (get_source (with-count 2) 0 ≡ record { known = true; source = a-new-entry })
-    × (get_source (with-count 2) 2 ≡ record { known = false; source = blankEntry })
+got : (get_source (with-count 2) 0 ≡ Some a-new-entry)
+    × (get_source (with-count 2) 2 ≡ None)
 unfolding get_source registered
 got = (refl, refl)
 
-found : (find_source (with-count 2) lfo ≡ F.At 0) × (find_source (with-count 2) [] ≡ F.At 1)
-    × (find_source (with-count 2) (times-a 32) ≡ F.Nothing) × (find_source (with-count 3) (times-a 32) ≡ F.At 2)
-    × (find_source (with-count 4) [] ≡ F.At 1) × (find_source (with-count 3) (times-a 33) ≡ F.Refused 15)
+found : (find_source (with-count 2) lfo ≡ Ok (Some 0)) × (find_source (with-count 2) [] ≡ Ok (Some 1))
+    × (find_source (with-count 2) (times-a 32) ≡ Ok None) × (find_source (with-count 3) (times-a 32) ≡ Ok (Some 2))
+    × (find_source (with-count 4) [] ≡ Ok (Some 1)) × (find_source (with-count 3) (times-a 33) ≡ Err Length)
 unfolding find_source find_key registered judged key_is key_of same_bytes new_entry key_array
 found = (refl, refl, refl, refl, refl, refl)
 

@@ -1,18 +1,19 @@
 -- The standard sources: which entries, in which order, and what refuses them (source.rs 146-160, 216-322;
 -- docs/CALLS.md). Definitions only.
 use Rattle.std.specs.Prelude.{Bool, true, false, cond, ◌&&◌, ◌||◌, List, [], ◌∷◌, ℕ, zero, suc, ◌+◌, ◌*◌, eqb, ltb, leb}
-use Rattle.std.specs.Prelude.{length, take, drop}
+use Rattle.std.specs.Prelude.{length, take, drop, is_some, Result, Ok, Err}
 use Rattle.refusal.specs.Judge.{Row, ◌when◌, judged}
+use Rattle.refusal.specs.Refusal.{number_of}
+use Rattle.refusal.specs.declared.Refusal.{Refusal}
 use Rattle.config.specs.Sizes.{most_sources}
 use Rattle.state.specs.declared.Kind.TheVariants as K
 use Rattle.state.specs.declared.Sources.{Sources}
 use Rattle.source.specs.declared.SourceInfo.{SourceInfo}
 use Rattle.source.specs.declared.Counts.{Counts}
-use Rattle.source.specs.declared.StandardMade.{StandardMade}
 use Rattle.source.specs.Keys.{most_key_bytes}
 use Rattle.source_key.specs.Bytes.{same_bytes}
 use Rattle.source.specs.Info.{usual_info, info_voice, info_bipolar}
-use Rattle.source.specs.Registry.{no_sources, registered, find_key, is_at, new_entry, with_entry}
+use Rattle.source.specs.Registry.{no_sources, registered, find_key, new_entry, with_entry}
 use Rattle.source.specs.Named.{env_word, lfo_word, after_y, macro_word, seq_word, velocity_key, key_key}
 use Rattle.source.specs.Named.{channel_pressure_key, poly_pressure_key, random1_key, random2_key, alternate1_key}
 use Rattle.source.specs.Named.{alternate2_key, mod_wheel_key, pitch_bend_key, mpe_xKey, mpe_yKey, mpe_zKey}
@@ -117,7 +118,7 @@ any_same key (k ∷ ks) = same_bytes key k || any_same key ks
 -- ---- rows
 
 unfoldable pub has : List ℕ → Sources → Bool
-has key s = is_at (find_key 0 key (registered s))
+has key s = is_some (find_key 0 key (registered s))
 
 -- the keys without a number
 unfoldable pub fixed_sources : Sources
@@ -154,6 +155,16 @@ standard_rows n bytes lengths =
     ∷ 14 when ltb (length bytes) (total lengths)
     ∷ 15 when any_long lengths
     ∷ []
+
+-- a number by which the call is refused, or 0, and a registry
+pub record StandardMade : Type 0 where
+  pub code : ℕ
+  pub sources : Sources
+
+-- what an answer says: a refusal gives the empty registry
+abbrev pub made_said : Result Sources Refusal → StandardMade
+made_said (Ok s) = record { code = 0; sources = s }
+made_said (Err r) = record { code = number_of r; sources = no_sources }
 
 -- accepted, the registry of all; refused, the empty one
 unfoldable pub standard_sources : Counts → List ℕ → List ℕ → StandardMade

@@ -1,5 +1,5 @@
 -- The standard sources, computed.
-use Rattle.std.specs.Prelude.{◌≡◌, refl, true, false, List, [], ◌∷◌, ℕ, replicate}
+use Rattle.std.specs.Prelude.{◌≡◌, refl, true, false, List, [], ◌∷◌, ℕ, replicate, Option, Some}
 use Rattle.source_key.specs.Text.{decimal}
 use Rattle.refusal.specs.Judge.{judged}
 use Rattle.state.specs.declared.Kind.TheVariants as K
@@ -7,8 +7,6 @@ use Rattle.state.specs.declared.Scope.TheVariants as S
 use Rattle.state.specs.declared.Range.TheVariants as R
 use Rattle.state.specs.declared.Source.{Source}
 use Rattle.source.specs.declared.Counts.{Counts}
-use Rattle.source.specs.declared.SourceFound.{SourceFound}
-use Rattle.source.specs.declared.SourceFound.TheVariants as F
 use Rattle.source.specs.Keys.{key_of, key_is, key_array}
 use Rattle.source_key.specs.Bytes.{same_bytes}
 use Rattle.source.specs.Registry.{no_sources, registered, find_key, new_entry, with_entry}
@@ -30,13 +28,13 @@ ones = record { envelopes = 1; lfos = 1; macros = 1; sequence_values = 1 }
 abbrev osc : List ℕ
 osc = 111 ∷ 115 ∷ 99 ∷ []
 
-abbrev at : List ℕ → SourceFound
+abbrev at : List ℕ → Option ℕ
 at key = find_key 0 key (registered (all_sources ones (osc ∷ [])))
 
 -- one of each and one audio key are 24 entries, in the order of the Rust
-order : ((all_sources ones (osc ∷ [])).count ≡ 24) × (at (numbered_key env_word [] 1) ≡ F.At 0)
-    × (at (numbered_key lfo_word [] 1) ≡ F.At 1) × (at (numbered_key lfo_word after_y 1) ≡ F.At 2)
-    × (at velocity_key ≡ F.At 3) × (at osc ≡ F.At 19) × (at seq_index_key ≡ F.At 22) × (at random_route_key ≡ F.At 23)
+order : ((all_sources ones (osc ∷ [])).count ≡ 24) × (at (numbered_key env_word [] 1) ≡ Some 0)
+    × (at (numbered_key lfo_word [] 1) ≡ Some 1) × (at (numbered_key lfo_word after_y 1) ≡ Some 2)
+    × (at velocity_key ≡ Some 3) × (at osc ≡ Some 19) × (at seq_index_key ≡ Some 22) × (at random_route_key ≡ Some 23)
 unfolding all_sources with_sequence with_audio with_controllers with_note_sources with_lfos lfo_pair with_numbered
     counted with_source with_entry new_entry key_array decimal no_sources find_key registered key_is key_of same_bytes
 order = (refl, refl, refl, refl, refl, refl, refl, refl)

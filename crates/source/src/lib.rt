@@ -1,14 +1,15 @@
 // The registry of sources (source.rs; document 01, Source entry), and what a source's kind says of it.
 #![tactic(auto)]
 
-ghost use Rattle.std.specs.Prelude.{◌≡◌, false, cond, ◌||◌, ◌+◌, ◌≤◌, ◌<◌, eqb, ltb, length, drop};
+ghost use Rattle.std.specs.Prelude.{◌≡◌, false, Ok, cond, ◌||◌, ◌+◌, ◌≤◌, ◌<◌, eqb, ltb, length, drop};
 ghost use Rattle.list.specs.Part.{part};
 ghost use Rattle.refusal.specs.Judge.{judged};
+ghost use Rattle.refusal.specs.Refusal.{code_of};
 ghost use Rattle.config.specs.Sizes.{most_sources};
 ghost use Rattle.source.specs.Keys.{most_key_bytes, key_length, key_is, key_array};
 ghost use Rattle.state.specs.Registry.{no_source as blankEntry, source_count};
-ghost use Rattle.source.specs.Registry.{no_sources, sources_empty, registered, get_source, find_key, is_at};
-ghost use Rattle.source.specs.Registry.{find_source, add_rows, with_entry, add_source};
+ghost use Rattle.source.specs.Registry.{no_sources, sources_empty, registered, get_source, find_key, find_source};
+ghost use Rattle.source.specs.Registry.{add_rows, new_entry, with_entry, added_said, add_source};
 ghost use Rattle.source.specs.Registry.{found_reply, found_says};
 ghost use Rattle.source.specs.Info.{engine_owned, usual_scope, usual_range, usual_info, info_voice, info_global};
 ghost use Rattle.source.specs.Info.{info_bipolar};
@@ -16,29 +17,18 @@ ghost use Rattle.source_key.specs.Numbered.{numbered_key};
 ghost use Rattle.source.specs.Standard.{held_info, audio_info, with_source, with_numbered, lfo_pair, with_lfos};
 ghost use Rattle.source.specs.Standard.{with_note_sources, with_controllers, with_audio, with_sequence, all_sources};
 ghost use Rattle.source.specs.Standard.{audio_keys, total, any_long, any_same, has, fixed_sources, sequence_key};
-ghost use Rattle.source.specs.Standard.{standard_key, clashes, standard_count, standard_rows, standard_sources};
+ghost use Rattle.source.specs.Standard.{standard_key, clashes, standard_count, standard_rows, made_said};
+ghost use Rattle.source.specs.Standard.{standard_sources};
 
 use config::SOURCES;
+use refusal::Refusal;
 use state::{KEY_BYTES, Kind, Range, Scope, Source, Sources};
 
+// The registry with one source more, and the source's number.
 #[derive(Clone, Copy)]
-pub struct SourceAdded {
-    pub code: u8,
+pub struct Added {
     pub id: usize,
     pub sources: Sources,
-}
-
-#[derive(Clone, Copy)]
-pub struct SourceEntry {
-    pub known: bool,
-    pub source: Source,
-}
-
-#[derive(Clone, Copy)]
-pub enum SourceFound {
-    Refused(u8),
-    Nothing,
-    At(usize),
 }
 
 // A source without its key: what `add` takes beside the key.
@@ -56,12 +46,6 @@ pub struct Counts {
     pub lfos: usize,
     pub macros: usize,
     pub sequence_values: usize,
-}
-
-#[derive(Clone, Copy)]
-pub struct StandardMade {
-    pub code: u8,
-    pub sources: Sources,
 }
 
 // ---- the registry
@@ -109,22 +93,14 @@ pub fn is_empty(sources: Sources) -> bool
     sources.count == 0
 }
 
-// Entry `id`, or the blank entry where there is none.
-pub fn get(sources: Sources, id: usize) -> SourceEntry
+// Entry `id`, if it is registered.
+pub fn get(sources: Sources, id: usize) -> Option<Source>
     ensures { result ≡ get_source sources id }
 {
     if id < len(sources) {
-        let source = sources.entry[id];
-        return SourceEntry {
-            known: true,
-            source: source,
-        };
+        return Some(sources.entry[id]);
     }
-    let source = blank_entry();
-    SourceEntry {
-        known: false,
-        source: source,
-    }
+    None
 }
 
 // ---- keys
@@ -144,75 +120,43 @@ fn key_is(source: Source, key: &[u8]) -> bool
     ensures { result ≡ key_is key.now source }
 {
     let bytes = source.key;
-    if key_len(source.len) != key.len() {
-        return false;
-    }
-    let mut at = 0usize;
-    while at < key.len() {
-        if key[at] != bytes[at] {
-            return false;
-        }
-        at += 1usize;
-    }
-    true
+    key == &bytes[..key_len(source.len)]
 }
 
-// The first entry with this key.
-fn find_key(sources: Sources, key: &[u8]) -> SourceFound
+// The number of the first entry with this key.
+fn find_key(sources: Sources, key: &[u8]) -> Option<usize>
     ensures { result ≡ find_key 0 key.now (registered sources) }
 {
     let n = len(sources);
-    let mut i = 0usize;
-    while i < n {
+    for i in 0..n {
         let source = sources.entry[i];
         if key_is(source, key) {
-            return SourceFound::At(i);
+            return Some(i);
         }
-        i += 1usize;
     }
-    SourceFound::Nothing
+    None
 }
 
-fn is_at(found: SourceFound) -> bool
-    ensures { result ≡ is_at found }
-{
-    match found {
-        SourceFound::Refused(_) => false,
-        SourceFound::Nothing => false,
-        SourceFound::At(_) => true,
-    }
-}
-
-// The number of the source with this key.
-pub fn find(sources: Sources, key: &[u8]) -> SourceFound
+// The number of the source with this key, if there is one.
+pub fn find(sources: Sources, key: &[u8]) -> Result<Option<usize>, Refusal>
     ensures value { result ≡ find_source sources key.now }
     ensures reply { found_reply result ≡ found_says sources key.now }
 {
     if KEY_BYTES < key.len() {
-        return SourceFound::Refused(15);
+        return Err(Refusal::Length);
     }
-    find_key(sources, key)
+    Ok(find_key(sources, key))
 }
 
 // ---- adding
 
-// The number by which `add` refuses a key, or 0.
-fn add_code(sources: Sources, key: &[u8]) -> u8
-    ensures { result ≡ judged (add_rows sources key.now) }
+// Whether a key may be added, or why it may not.
+fn check_key(sources: Sources, key: &[u8]) -> Result<(), Refusal>
+    ensures { code_of result ≡ judged (add_rows sources key.now) }
 {
-    let taken = is_at(find_key(sources, key));
-    let n = len(sources);
-    let length = key.len();
-    if taken {
-        return 9;
-    }
-    if SOURCES <= n {
-        return 12;
-    }
-    if KEY_BYTES < length {
-        return 15;
-    }
-    0
+    refusal::when(find_key(sources, key).is_some(), Refusal::Registered)?;
+    refusal::when(SOURCES <= len(sources), Refusal::Full)?;
+    refusal::when(KEY_BYTES < key.len(), Refusal::Length)
 }
 
 // The key's bytes, then zeros.
@@ -221,12 +165,22 @@ fn key_array(key: &[u8]) -> [u8; KEY_BYTES]
     ensures { result ≡ key_array key.now }
 {
     let mut bytes = [0u8; KEY_BYTES];
-    let mut i = 0usize;
-    while i < key.len() {
-        bytes[i] = key[i];
-        i += 1usize;
-    }
+    bytes[..key.len()].copy_from_slice(key);
     bytes
+}
+
+// The entry of a source under its key.
+fn new_entry(key: &[u8], info: SourceInfo) -> Source
+    requires { length key.now ≤ most_key_bytes }
+    ensures { result ≡ new_entry key.now info.kind info.scope info.range }
+{
+    Source {
+        key: key_array(key),
+        len: key.len(),
+        kind: info.kind,
+        scope: info.scope,
+        range: info.range,
+    }
 }
 
 // The registry with one entry more.
@@ -242,31 +196,21 @@ fn with_entry(sources: Sources, source: Source) -> Sources
 }
 
 // Registers a source under its key.
-pub fn add(sources: Sources, key: &[u8], kind: Kind, scope: Scope, range: Range) -> SourceAdded
-    ensures { result ≡ add_source sources key.now kind scope range }
+pub fn add(
+    sources: Sources,
+    key: &[u8],
+    kind: Kind,
+    scope: Scope,
+    range: Range,
+) -> Result<Added, Refusal>
+    ensures { added_said sources result ≡ add_source sources key.now kind scope range }
 {
-    let code = add_code(sources, key);
-    if code != 0 {
-        return SourceAdded {
-            code: code,
-            id: 0,
-            sources: sources,
-        };
-    }
-    let source = Source {
-        key: key_array(key),
-        len: key.len(),
-        kind: kind,
-        scope: scope,
-        range: range,
-    };
-    let more = with_entry(sources, source);
-    let id = len(sources);
-    SourceAdded {
-        code: 0,
-        id: id,
-        sources: more,
-    }
+    check_key(sources, key)?;
+    let source = new_entry(key, SourceInfo { kind, scope, range });
+    Ok(Added {
+        id: len(sources),
+        sources: with_entry(sources, source),
+    })
 }
 
 // ---- what a kind says of its source
@@ -331,12 +275,10 @@ impl SourceInfo {
     pub fn new(kind: Kind) -> SourceInfo
         ensures { result ≡ usual_info kind }
     {
-        let scope = usual_scope(kind);
-        let range = usual_range(kind);
         SourceInfo {
-            kind: kind,
-            scope: scope,
-            range: range,
+            kind,
+            scope: usual_scope(kind),
+            range: usual_range(kind),
         }
     }
 
@@ -344,45 +286,28 @@ impl SourceInfo {
     pub fn voice(mut self) -> SourceInfo
         ensures { result ≡ info_voice self }
     {
-        let kind = self.kind;
-        if is_engine_owned(kind) {
-            return self;
+        if !is_engine_owned(self.kind) {
+            self.scope = Scope::Voice;
         }
-        let range = self.range;
-        SourceInfo {
-            kind: kind,
-            scope: Scope::Voice,
-            range: range,
-        }
+        self
     }
 
     // Global, unless the engine makes the kind.
     pub fn global(mut self) -> SourceInfo
         ensures { result ≡ info_global self }
     {
-        let kind = self.kind;
-        if is_engine_owned(kind) {
-            return self;
+        if !is_engine_owned(self.kind) {
+            self.scope = Scope::Global;
         }
-        let range = self.range;
-        SourceInfo {
-            kind: kind,
-            scope: Scope::Global,
-            range: range,
-        }
+        self
     }
 
     // Bipolar.
     pub fn bipolar(mut self) -> SourceInfo
         ensures { result ≡ info_bipolar self }
     {
-        let kind = self.kind;
-        let scope = self.scope;
-        SourceInfo {
-            kind: kind,
-            scope: scope,
-            range: Range::Bipolar,
-        }
+        self.range = Range::Bipolar;
+        self
     }
 }
 
@@ -406,17 +331,7 @@ fn with_source(sources: Sources, key: &[u8], info: SourceInfo) -> Sources
     requires { length key.now ≤ most_key_bytes }
     ensures { result ≡ with_source key.now info sources }
 {
-    let kind = info.kind;
-    let scope = info.scope;
-    let range = info.range;
-    let source = Source {
-        key: key_array(key),
-        len: key.len(),
-        kind: kind,
-        scope: scope,
-        range: range,
-    };
-    push(sources, source)
+    push(sources, new_entry(key, info))
 }
 
 // The registry with a source whose key has a number in it.
@@ -429,15 +344,12 @@ fn with_number(sources: Sources, word: &[u8], after: &[u8], info: SourceInfo, n:
     let numbered = source_key::put_number(begun, n);
     let text = source_key::put_word(numbered, after);
     let key = text.bytes;
-    let kind = info.kind;
-    let scope = info.scope;
-    let range = info.range;
     let source = Source {
-        key: key,
+        key,
         len: text.len,
-        kind: kind,
-        scope: scope,
-        range: range,
+        kind: info.kind,
+        scope: info.scope,
+        range: info.range,
     };
     push(sources, source)
 }
@@ -454,12 +366,8 @@ fn with_numbered(
     ensures { result ≡ with_numbered word.now after.now info count sources }
 {
     let mut next = sources;
-    let mut i = 0usize;
-    while i < count {
-        let n = i + 1usize;
-        let more = with_number(next, word, after, info, n);
-        next = more;
-        i = n;
+    for i in 0..count {
+        next = with_number(next, word, after, info, i + 1);
     }
     next
 }
@@ -474,18 +382,15 @@ fn with_lfo(sources: Sources, n: usize) -> Sources
     with_number(x, b"lfo", b"_y", info, n)
 }
 
-// The LFOs 1 to `count`, each with its Y output.
+// The LFOs 1 to `count`, each with its Y output. A step is two entries here and one in `with_numbered`; one loop for
+// both would take a closure with a contract of its own, and be no plainer.
 fn with_lfos(sources: Sources, count: usize) -> Sources
     requires { count ≤ most_sources }
     ensures { result ≡ with_lfos count sources }
 {
     let mut next = sources;
-    let mut i = 0usize;
-    while i < count {
-        let n = i + 1usize;
-        let more = with_lfo(next, n);
-        next = more;
-        i = n;
+    for i in 0..count {
+        next = with_lfo(next, i + 1);
     }
     next
 }
@@ -565,13 +470,11 @@ fn with_audio(sources: Sources, bytes: &[u8], lengths: &[usize]) -> Sources
 {
     let mut next = sources;
     let mut start = 0usize;
-    let mut i = 0usize;
-    while i < lengths.len() {
+    for i in 0..lengths.len() {
         let end = start + lengths[i];
         let more = with_audio_key(next, bytes, start, end);
         next = more;
         start = end;
-        i += 1usize;
     }
     next
 }
@@ -588,7 +491,8 @@ fn is_sequence(key: &[u8], n: usize) -> bool
     if n == 0 {
         return false;
     }
-    source_key::same_bytes(key, b"seq_index")
+    let index: &[u8] = b"seq_index";
+    key == index
 }
 
 // The standard sources whose keys have no number.
@@ -605,7 +509,7 @@ fn fixed_sources() -> Sources
 fn has_key(sources: Sources, key: &[u8]) -> bool
     ensures { result ≡ has key.now sources }
 {
-    is_at(find_key(sources, key))
+    find_key(sources, key).is_some()
 }
 
 // Whether the key is a standard one for these counts.
@@ -638,18 +542,16 @@ fn any_same(key: &[u8], bytes: &[u8], from: usize, lengths: &[usize], first: usi
         (audio_keys (drop from bytes.now) (drop first lengths.now)) }
 {
     let mut at = from;
-    let mut i = first;
-    while i < lengths.len() {
+    for i in first..lengths.len() {
         let n = lengths[i];
         if bytes.len() - at < n {
             return false;
         }
         let end = at + n;
-        if source_key::same_bytes(key, &bytes[at..end]) {
+        if key == &bytes[at..end] {
             return true;
         }
         at = end;
-        i += 1usize;
     }
     false
 }
@@ -682,15 +584,13 @@ fn any_clash(counts: Counts, fixed: Sources, bytes: &[u8], lengths: &[usize]) ->
     ensures { result ≡ clashes counts (audio_keys bytes.now lengths.now) }
 {
     let mut start = 0usize;
-    let mut i = 0usize;
-    while i < lengths.len() {
+    for i in 0..lengths.len() {
         let n = lengths[i];
         if bytes.len() - start < n {
             return false;
         }
         let end = start + n;
-        i += 1usize;
-        if key_clashes(counts, fixed, bytes, start, end, lengths, i) {
+        if key_clashes(counts, fixed, bytes, start, end, lengths, i + 1) {
             return true;
         }
         start = end;
@@ -745,14 +645,12 @@ fn adds_up_above(have: usize, lengths: &[usize]) -> bool
     ensures { result ≡ ltb have (total lengths.now) }
 {
     let mut left = have;
-    let mut i = 0usize;
-    while i < lengths.len() {
+    for i in 0..lengths.len() {
         let n = lengths[i];
         if left < n {
             return true;
         }
         left -= n;
-        i += 1usize;
     }
     false
 }
@@ -761,36 +659,20 @@ fn adds_up_above(have: usize, lengths: &[usize]) -> bool
 fn any_long(lengths: &[usize]) -> bool
     ensures { result ≡ any_long lengths.now }
 {
-    let mut i = 0usize;
-    while i < lengths.len() {
-        if KEY_BYTES < lengths[i] {
-            return true;
-        }
-        i += 1usize;
-    }
-    false
+    lengths.iter().any(|n| KEY_BYTES < *n)
 }
 
 // ---- the standard sources
 
-// The number by which `standard` refuses, or 0.
-fn standard_code(counts: Counts, keys: &[u8], lengths: &[usize]) -> u8
-    ensures { result ≡ judged (standard_rows counts keys.now lengths.now) }
+// Whether `standard` makes these, or why it does not.
+fn check_standard(counts: Counts, keys: &[u8], lengths: &[usize]) -> Result<(), Refusal>
+    ensures { code_of result ≡ judged (standard_rows counts keys.now lengths.now) }
 {
-    let fixed = fixed_sources();
-    if any_clash(counts, fixed, keys, lengths) {
-        return 9u8;
-    }
-    if too_many(counts, lengths.len()) {
-        return 12u8;
-    }
-    if adds_up_above(keys.len(), lengths) {
-        return 14u8;
-    }
-    if any_long(lengths) {
-        return 15u8;
-    }
-    0u8
+    let clash = any_clash(counts, fixed_sources(), keys, lengths);
+    refusal::when(clash, Refusal::Registered)?;
+    refusal::when(too_many(counts, lengths.len()), Refusal::Full)?;
+    refusal::when(adds_up_above(keys.len(), lengths), Refusal::Memory)?;
+    refusal::when(any_long(lengths), Refusal::Length)
 }
 
 // The standard entries in their order.
@@ -810,20 +692,9 @@ fn all_sources(counts: Counts, keys: &[u8], lengths: &[usize]) -> Sources
 }
 
 // The standard sources for these counts and audio keys.
-pub fn standard(counts: Counts, keys: &[u8], lengths: &[usize]) -> StandardMade
-    ensures { result ≡ standard_sources counts keys.now lengths.now }
+pub fn standard(counts: Counts, keys: &[u8], lengths: &[usize]) -> Result<Sources, Refusal>
+    ensures { made_said result ≡ standard_sources counts keys.now lengths.now }
 {
-    let code = standard_code(counts, keys, lengths);
-    if code != 0 {
-        let none = new();
-        return StandardMade {
-            code: code,
-            sources: none,
-        };
-    }
-    let sources = all_sources(counts, keys, lengths);
-    StandardMade {
-        code: 0,
-        sources: sources,
-    }
+    check_standard(counts, keys, lengths)?;
+    Ok(all_sources(counts, keys, lengths))
 }

@@ -2,15 +2,22 @@
 use mathlib.Core.Path.{◌≡◌, refl, ap}
 use mathlib.Core.Bool.{Bool, true, false, ◌&&◌}
 use mathlib.Core.List.{List, [], ◌∷◌}
-use Prim.Native.Nat.{ℕ, ◌+◌, ◌<◌}
-use native.Mathlib.Numerals.{add-one}
+use Prim.Native.Nat.{ℕ}
 use native.Mathlib.Omega.{arith}
 use lib.Dec.{eqb}
-use lib.ListN.{length, get_or, drop}
-use lib.Seq.{drop-cons, drop-length}
+use lib.ListN.{length}
 use borrow.Author.Tests.{eqb-true, eq-eqb}
+use Rattle.std.specs.Cmp.Lexicographic.{pointwise}
 use Rattle.list.proofs.Bools.{and-true-l, and_true_r}
 use Rattle.source_key.specs.Bytes.{same_bytes}
+
+-- the library's comparison
+pub pointwise-same : (xs ys : List ℕ) → pointwise eqb xs ys ≡ same_bytes xs ys
+unfolding same_bytes
+pointwise-same [] [] = refl
+pointwise-same [] (y ∷ ys) = refl
+pointwise-same (x ∷ xs) [] = refl
+pointwise-same (x ∷ xs) (y ∷ ys) = ap (λ (t : Bool). eqb x y && t) (pointwise-same xs ys)
 
 pub same_self : (xs : List ℕ) → same_bytes xs xs ≡ true
 unfolding same_bytes
@@ -33,16 +40,3 @@ is_false false h = refl
 
 pub same-lengths : (xs ys : List ℕ) → (length xs ≡ length ys → ⊥) → same_bytes xs ys ≡ false
 same-lengths xs ys h = is_false (same_bytes xs ys) (λ e. h (ap length (same-equal xs ys e)))
-
--- what is left from i on, byte by byte
-pub same_from : (xs ys : List ℕ) (i : ℕ) → i < length xs → i < length ys
-    → same_bytes (drop i xs) (drop i ys) ≡ (eqb (get_or xs i 0) (get_or ys i 0) && same_bytes (drop (i + 1) xs) (drop (i + 1) ys))
-unfolding same_bytes
-same_from xs ys i p q = rw (add-one, drop-cons xs i 0 p, drop-cons ys i 0 q)
-
-pub same-past : (xs ys : List ℕ) (i : ℕ) → i ≡ length xs → i ≡ length ys → same_bytes (drop i xs) (drop i ys) ≡ true
-unfolding same_bytes
-same-past xs ys i p q =
-    let a : drop i xs ≡ [] = rw p (drop-length xs) in
-    let b : drop i ys ≡ [] = rw q (drop-length ys) in
-    rw (a, b)

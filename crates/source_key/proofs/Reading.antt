@@ -19,10 +19,7 @@ use Rattle.source_key.proofs.Bytes.{same-lengths}
 pub digit-from : (b : ℕ) → is_digit b ≡ true → 48 ≤ b
 digit-from b h = leb-true 48 b (and-true-l (leb 48 b) (leb b 57) h)
 
--- a part from the start, and one up to the end
-pub front : (l : List ℕ) (n : ℕ) → take (n - 0) (drop 0 l) ≡ take n l
-front l n = rw sub-zero
-
+-- a part up to the end
 pub rest_from : (l : List ℕ) (i : ℕ) → take (length l - i) (drop i l) ≡ drop i l
 rest_from l i = rw (← length-drop i l) (take-length (drop i l))
 

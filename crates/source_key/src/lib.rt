@@ -4,12 +4,11 @@
 
 ghost use Rattle.std.specs.Prelude.{◌≡◌, ◌+◌, ◌≤◌, ◌<◌, ltb};
 ghost use Rattle.source_key.specs.Text.{blank_text, put_byte, put_all, decimal};
-ghost use Rattle.source_key.specs.Bytes.{same_bytes};
 ghost use Rattle.source_key.specs.Numbered.{is_digit, longer, read_on, number_then, is_numbered};
 
 use state::KEY_BYTES;
 
-// A key as it is written: the bytes so far, then zeros, and how many there are.
+// A key as it is written: the bytes so far, then zeros, and how many there are (no heap: the memory is fixed).
 #[derive(Clone, Copy)]
 pub struct Text {
     pub bytes: [u8; KEY_BYTES],
@@ -45,11 +44,9 @@ pub fn put_word(text: Text, word: &[u8]) -> Text
     ensures { result ≡ put_all text word.now }
 {
     let mut next = text;
-    let mut i = 0usize;
-    while i < word.len() {
+    for i in 0..word.len() {
         let more = put(next, word[i]);
         next = more;
-        i += 1usize;
     }
     next
 }
@@ -75,23 +72,6 @@ pub fn put_number(text: Text, n: usize) -> Text
     }
     let hundreds = put(text, digit(n / 100));
     put(put(hundreds, digit(n / 10 % 10)), digit(n % 10))
-}
-
-// Whether two keys are the same.
-pub fn same_bytes(a: &[u8], b: &[u8]) -> bool
-    ensures { result ≡ same_bytes a.now b.now }
-{
-    if a.len() != b.len() {
-        return false;
-    }
-    let mut i = 0usize;
-    while i < a.len() {
-        if a[i] != b[i] {
-            return false;
-        }
-        i += 1usize;
-    }
-    true
 }
 
 fn is_digit(byte: u8) -> bool
@@ -128,17 +108,15 @@ fn reads_on(rest: &[u8], after: &[u8], n: usize) -> bool
     ensures { result ≡ read_on n after.now 0 rest.now }
 {
     let mut v = 0usize;
-    let mut i = 0usize;
-    while i < rest.len() {
+    for i in 0..rest.len() {
         let byte = rest[i];
         if !is_digit(byte) {
-            return same_bytes(&rest[i..], after);
+            return &rest[i..] == after;
         }
         if above(v, byte, n) {
             return false;
         }
         v = next_number(v, byte, n);
-        i += 1usize;
     }
     after.len() == 0
 }
@@ -168,7 +146,7 @@ pub fn is_numbered(key: &[u8], word: &[u8], after: &[u8], n: usize) -> bool
     if key.len() < start {
         return false;
     }
-    if !same_bytes(word, &key[0..start]) {
+    if word != &key[..start] {
         return false;
     }
     number_then(&key[start..], after, n)

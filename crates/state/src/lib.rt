@@ -13,7 +13,7 @@ pub const KEY_BYTES: usize = 32;
 
 // ---- sources (source.rs; document 01, Source entry)
 
-#[derive(Clone, Copy)]
+#[derive(Clone, Copy, PartialEq, Eq)]
 pub enum Kind {
     Signal,
     Audio,
@@ -28,13 +28,13 @@ pub enum Kind {
     Constant,
 }
 
-#[derive(Clone, Copy)]
+#[derive(Clone, Copy, PartialEq, Eq)]
 pub enum Scope {
     Voice,
     Global,
 }
 
-#[derive(Clone, Copy)]
+#[derive(Clone, Copy, PartialEq, Eq)]
 pub enum Range {
     Unipolar,
     Bipolar,
@@ -50,6 +50,7 @@ pub struct Source {
     pub range: Range,
 }
 
+// The first `count` entries count; fixed memory, copied by value.
 #[derive(Clone, Copy)]
 pub struct Sources {
     pub count: usize,
@@ -58,7 +59,7 @@ pub struct Sources {
 
 // ---- destinations (dest.rs; document 01, Destination entry)
 
-#[derive(Clone, Copy)]
+#[derive(Clone, Copy, PartialEq, Eq)]
 pub enum Target {
     Param(u32),
     LfoBus { lfo: u8, bus: u8 },
@@ -68,25 +69,17 @@ pub enum Target {
 pub fn same_target(a: Target, b: Target) -> bool
     ensures { result ≡ same_target a b }
 {
-    match a {
-        Target::Param(m) => match b {
-            Target::Param(n) => m == n,
-            Target::LfoBus { lfo: _, bus: _ } => false,
-        },
-        Target::LfoBus { lfo, bus } => match b {
-            Target::Param(_) => false,
-            Target::LfoBus { lfo: l, bus: u } => lfo == l && bus == u,
-        },
-    }
+    a == b
 }
 
-#[derive(Clone, Copy)]
+#[derive(Clone, Copy, PartialEq, Eq)]
 pub enum Rate {
     Audio,
     Control,
     Adaptive,
 }
 
+// Flat, with a case for none: its four cases are read together.
 #[derive(Clone, Copy)]
 pub enum Feed {
     Nothing,
@@ -105,6 +98,7 @@ pub struct Dest {
     pub feed: Feed,
 }
 
+// The first `count` entries count; fixed memory, copied by value.
 #[derive(Clone, Copy)]
 pub struct Destinations {
     pub count: usize,
@@ -113,19 +107,7 @@ pub struct Destinations {
 
 // ---- slots (matrix.rs; document 01, Slot)
 
-#[derive(Clone, Copy)]
-pub enum Pick {
-    Nothing,
-    Source(usize),
-}
-
-#[derive(Clone, Copy)]
-pub enum Aim {
-    Nothing,
-    At(Target),
-}
-
-#[derive(Clone, Copy)]
+#[derive(Clone, Copy, PartialEq, Eq)]
 pub enum Polarity {
     Unipolar,
     Bipolar,
@@ -133,19 +115,19 @@ pub enum Polarity {
 
 #[derive(Clone, Copy)]
 pub struct Slot {
-    pub source: Pick,
+    pub source: Option<usize>,
     pub source_curve: Curve,
     pub amount: f32,
     pub polarity: Polarity,
-    pub destination: Aim,
-    pub aux: Pick,
+    pub destination: Option<Target>,
+    pub aux: Option<usize>,
     pub aux_invert: bool,
     pub aux_curve: Curve,
     pub output: f32,
     pub bypass: bool,
 }
 
-#[derive(Clone, Copy)]
+#[derive(Clone, Copy, PartialEq, Eq)]
 pub enum NoteCurve {
     Linear,
     Table,
@@ -162,48 +144,46 @@ pub struct Matrix {
 
 // ---- the compiled program (program.rs; document 01, Plan and route)
 
-#[derive(Clone, Copy)]
+#[derive(Clone, Copy, Default)]
 pub enum Read {
     Signal { source: u8, voice: bool },
     Held { source: u8, voice: bool },
     Fed { plan: u8, voice: bool },
+    #[default]
     Constant,
     RouteRandom,
 }
 
+// How far an input may rise and fall in a sample.
 #[derive(Clone, Copy)]
-pub enum Slew {
-    Free,
-    Limit { up: f32, down: f32 },
+pub struct Slew {
+    pub up: f32,
+    pub down: f32,
 }
 
 // One input of a route. `table` says that it has a curve table, at the place of its slot and position.
-#[derive(Clone, Copy)]
+#[derive(Clone, Copy, Default)]
 pub struct Input {
     pub read: Read,
     pub bipolar: bool,
     pub table: bool,
-    pub slew: Slew,
+    pub slew: Option<Slew>,
 }
 
-#[derive(Clone, Copy)]
-pub enum Aux {
-    Missing,
-    With(Input),
-}
-
-#[derive(Clone, Copy)]
+// Where an amount or an output is read. No Option: live is a kind of its own, as in the Rust.
+#[derive(Clone, Copy, Default)]
 pub enum Gain {
+    #[default]
     Live,
     Fed { plan: u8, voice: bool },
 }
 
 // `scale` and `offset` are the Rust's `affine`.
-#[derive(Clone, Copy)]
+#[derive(Clone, Copy, Default)]
 pub struct Route {
     pub slot: u8,
     pub source: Input,
-    pub aux: Aux,
+    pub aux: Option<Input>,
     pub aux_invert: bool,
     pub bipolar: bool,
     pub amount: Gain,
@@ -214,8 +194,10 @@ pub struct Route {
     pub simple: bool,
 }
 
-#[derive(Clone, Copy)]
+// Flat, with a case for a base that is not fed: its four cases are read together.
+#[derive(Clone, Copy, Default, PartialEq, Eq)]
 pub enum Base {
+    #[default]
     Set,
     Held(u8),
     Amount(u8),
@@ -223,7 +205,7 @@ pub enum Base {
 }
 
 // `first` and `count` say which routes are the plan's.
-#[derive(Clone, Copy)]
+#[derive(Clone, Copy, Default)]
 pub struct Plan {
     pub dest: u16,
     pub voice: bool,
@@ -235,14 +217,15 @@ pub struct Plan {
     pub count: usize,
 }
 
-#[derive(Clone, Copy)]
+#[derive(Clone, Copy, Default)]
 pub enum Reason {
+    #[default]
     UnknownSource,
     UnknownAux,
     UnknownDestination,
 }
 
-#[derive(Clone, Copy)]
+#[derive(Clone, Copy, Default)]
 pub struct Skipped {
     pub slot: u8,
     pub reason: Reason,
@@ -274,13 +257,6 @@ pub struct Program {
     pub skipped: [Skipped; SLOTS],
 }
 
-// A program, or the row by which compiling is refused.
-#[derive(Clone, Copy)]
-pub struct Compiled {
-    pub code: u8,
-    pub program: Program,
-}
-
 // ---- compiling (program.rs 272-372; document 01, Plan and route)
 
 // What a program is compiled from.
@@ -292,22 +268,17 @@ pub struct Wiring {
     pub config: Config,
 }
 
-#[derive(Clone, Copy)]
-pub enum AuxSource {
-    Nothing,
-    Source(u8),
-}
-
 // A slot that becomes a route.
-#[derive(Clone, Copy)]
+#[derive(Clone, Copy, Default)]
 pub struct Candidate {
     pub slot: u8,
     pub source: u8,
-    pub aux: AuxSource,
+    pub aux: Option<u8>,
     pub dest: u16,
 }
 
 // What becomes of a slot.
+// Three outcomes, none of them a refusal: an Option of a Result is no plainer.
 #[derive(Clone, Copy)]
 pub enum Verdict {
     Over,
@@ -316,7 +287,7 @@ pub enum Verdict {
 }
 
 // A destination in use: its scope, its rate and its counted feed.
-#[derive(Clone, Copy)]
+#[derive(Clone, Copy, Default)]
 pub struct Used {
     pub dest: u16,
     pub voice: bool,
@@ -325,20 +296,20 @@ pub struct Used {
 }
 
 // The destination in use that feeds a thing and is read.
-#[derive(Clone, Copy)]
-pub enum Feeder {
-    Nothing,
-    Dest { dest: u16, voice: bool },
+#[derive(Clone, Copy, Default)]
+pub struct FedBy {
+    pub dest: u16,
+    pub voice: bool,
 }
 
 // A candidate and who feeds its source, its aux, its amount and its output.
-#[derive(Clone, Copy)]
+#[derive(Clone, Copy, Default)]
 pub struct Reader {
     pub candidate: Candidate,
-    pub source: Feeder,
-    pub aux: Feeder,
-    pub amount: Feeder,
-    pub output: Feeder,
+    pub source: Option<FedBy>,
+    pub aux: Option<FedBy>,
+    pub amount: Option<FedBy>,
+    pub output: Option<FedBy>,
 }
 
 // ---- the engine (engine.rs 202-260; document 01, Chunk and value)
@@ -399,46 +370,4 @@ pub struct State {
     pub block: Block,
     pub primed: bool,
     pub program: Program,
-}
-
-// ---- answers of calls on an engine
-
-#[derive(Clone, Copy)]
-pub struct Flag {
-    pub code: u8,
-    pub on: bool,
-}
-
-#[derive(Clone, Copy)]
-pub struct Bound {
-    pub code: u8,
-    pub signals: Signals,
-}
-
-#[derive(Clone, Copy)]
-pub enum ChunkRead {
-    Nothing,
-    Chunk(Chunk),
-}
-
-#[derive(Clone, Copy)]
-pub enum Output {
-    Refused(u8),
-    Unmodulated,
-    Audio { width: usize },
-    Control { width: usize, chunks: usize },
-}
-
-#[derive(Clone, Copy)]
-pub enum Reading {
-    Refused(u8),
-    Nothing,
-    Value(f32),
-}
-
-#[derive(Clone, Copy)]
-pub enum Ramped {
-    Refused(u8),
-    Nothing,
-    Filled(usize),
 }

@@ -1,37 +1,11 @@
--- The list that an array holds, filled from its start, one element at a time. Assumes nothing.
-use mathlib.Core.Path.{◌≡◌, ap, ◌∙◌}
-use mathlib.Core.List.{List, [], ◌∷◌, ◌++◌}
-use Prim.Native.Nat.{ℕ, suc, ◌+◌, ◌≤◌, ◌<◌, min}
-use native.Mathlib.Omega.{arith}
+-- A list, one element at a time. Assumes nothing.
+use mathlib.Core.Path.{◌≡◌}
+use mathlib.Core.List.{List, ◌∷◌}
+use Prim.Native.Nat.{ℕ, ◌+◌, ◌<◌}
 use native.Mathlib.Numerals.{add-one}
-use lib.ListN.{length, get_or, take, drop, length-take, drop_of_length-le}
-use lib.Seq.{drop-cons, take-suc, take_all, get_or-take}
-use Rattle.config.specs.Sizes.{slots}
+use lib.ListN.{length, get_or, drop}
+use lib.Seq.{drop-cons}
 
-module _ {A : Type 0} (xs : List A) (n : ℕ) (e : length xs ≡ slots) where
-  pub stored-length : length (take n xs) ≡ min n slots
-  stored-length = length-take n xs ∙ ap (λ (m : ℕ). min n m) e
-
-  module _ (i : ℕ) (d : A) (h : i < min n slots) where
-    below : i < length (take n xs)
-    below = rw stored-length h
-
-    -- element i is the first of those from i on
-    pub stored-from : drop i (take n xs) ≡ get_or xs i d ∷ drop (i + 1) (take n xs)
-    stored-from =
-        rw add-one (drop-cons (take n xs) i d below ∙ ap (λ (x : A). x ∷ drop (suc i) (take n xs)) (get_or-take n xs i d (omega arith)))
-
-    -- and the last of those up to i
-    pub stored-to : take (i + 1) (take n xs) ≡ take i (take n xs) ++ get_or xs i d ∷ []
-    stored-to =
-        rw add-one (take-suc (take n xs) i d below ∙ ap (λ (x : A). take i (take n xs) ++ x ∷ []) (get_or-take n xs i d (omega arith)))
-
-  module _ (i : ℕ) (h : min n slots ≤ i) where
-    past : length (take n xs) ≤ i
-    past = rw stored-length h
-
-    pub stored-end : drop i (take n xs) ≡ []
-    stored-end = drop_of_length-le (take n xs) past
-
-    pub stored-all : take i (take n xs) ≡ take n xs
-    stored-all = take_all i (take n xs) past
+-- element i is the first of those from i on
+pub stored-from : {A : Type 0} (xs : List A) (i : ℕ) (d : A) → i < length xs → drop i xs ≡ get_or xs i d ∷ drop (i + 1) xs
+stored-from xs i d h = rw add-one (drop-cons xs i d h)

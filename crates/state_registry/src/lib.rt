@@ -16,11 +16,7 @@ use state::{
 pub fn source_count(sources: Sources) -> usize
     ensures { result ≡ source_count sources }
 {
-    let count = sources.count;
-    if count <= SOURCES {
-        return count;
-    }
-    SOURCES
+    sources.count.min(SOURCES)
 }
 
 // whether there is a source i
@@ -56,11 +52,7 @@ pub fn source_at(sources: Sources, i: usize) -> Source
 pub fn dest_count(dests: Destinations) -> usize
     ensures { result ≡ dest_count dests }
 {
-    let count = dests.count;
-    if count <= DESTINATIONS {
-        return count;
-    }
-    DESTINATIONS
+    dests.count.min(DESTINATIONS)
 }
 
 pub fn not_a_number() -> f32
@@ -99,14 +91,8 @@ pub fn dest_place(dests: Destinations, target: Target) -> usize
     ensures { result ≡ dest_place dests target }
 {
     let n = dest_count(dests);
-    let mut i = 0;
-    while i < n {
-        let e = dests.entry[i];
-        let t = e.target;
-        if state::same_target(t, target) {
-            return i;
-        }
-        i += 1;
-    }
-    i
+    dests.entry[..n]
+        .iter()
+        .position(|d| state::same_target(d.target, target))
+        .unwrap_or(n)
 }

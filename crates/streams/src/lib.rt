@@ -26,6 +26,7 @@ pub fn write<W: Write>(to: &mut W, bytes: &[u8]) -> usize
     ensures known { Appends (W.contents to.old) (W.contents to.new) (take result bytes.now) }
 {
     let mut done = 0usize;
+    // Not a for: the step is what was taken.
     while done < bytes.len() {
         let n = taken(to, &bytes[done..]);
         if n == 0 {
@@ -86,6 +87,7 @@ pub fn read<R: Read>(from: &mut R, buffer: &mut [u8]) -> usize
     ensures known { Consumes (R.remaining from.old) (R.remaining from.new) (take result buffer.new) }
 {
     let mut done = 0usize;
+    // Not a for: the step is what was given.
     while done < buffer.len() {
         let n = given(from, &mut buffer[done..]);
         if n == 0 {

@@ -1,25 +1,9 @@
 // Reads a session from standard input and prints what each of its calls answers (oracle/README.md, Session format).
 #![tactic(auto)]
 
-ghost use Rattle.std.specs.Prelude.{◌<◌};
-
 use std::alloc::AllocError;
 
-// none where the session is over, else one less
-fn fewer(left: u64, code: u8, done: bool) -> u64
-    requires { 0 < left }
-    ensures { result < left }
-{
-    if 15 < code {
-        return 0;
-    }
-    if done {
-        return 0;
-    }
-    left - 1
-}
-
-// Reads, answers and prints line by line, at most 2^62 of them.
+// Reads, answers and prints line by line.
 fn run(
     rt: HostRuntime,
     input: &mut [u8],
@@ -35,8 +19,7 @@ fn run(
     let mut shelf = [empty; 9];
     let mut from = rt.stdin();
     let mut r = trace_input_lines::first();
-    let mut left = 4611686018427387904u64;
-    while 0 < left {
+    for _ in 0..u64::MAX {
         let a = trace_input_lines::ahead(&mut from, input, r);
         let line = trace_input_session::part(input, a.start, a.stop);
         let i = trace_dispatch::number_of(line, book);
@@ -64,7 +47,9 @@ fn run(
         shelf[j] = q;
         let reader = a.reader;
         r = reader;
-        left = fewer(left, s.code, a.done);
+        if a.done || trace_lines_answer::ends(s.stop) {
+            break;
+        }
     }
     trace_dispatch::end(s, r.failed, r.number, rt, out);
 }

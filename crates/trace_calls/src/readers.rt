@@ -1,11 +1,13 @@
 // Blocks, and lines that print something of the engine.
 use crate::setters::tables_lent;
-use engine::{Done, Engine};
+use engine::Engine;
+use refusal::Refusal;
 use state::Signals;
 use std::io::Stdout;
 use trace_grammar::Reading;
-use trace_print_report::{How, Print, Told};
-use trace_setup_lending::{FROM, POOL_FULL, pool_top};
+use trace_print_report::{How, Print};
+use trace_setup_lending::{FROM, pool_top};
+use trace_stops::{Limit, Stop};
 use trace_store_book::{
     AUDIO, AUDIO_PARTS, BASES, CANON, DESTS, GLOBALS, HELD, INSTALLED, NEED, OUT, PRINT, ROUTES,
     VALUES, VALUES_PARTS,
@@ -83,7 +85,7 @@ fn run(
     values: &mut [f32],
     audio: &mut [f32],
     pool: &[f32],
-) -> Done {
+) -> Result<Engine, Refusal> {
     let held = trace_store_book::lent(book, HELD, desk.len());
     let global = trace_store_book::lent(book, GLOBALS, globals.len());
     let base = trace_store_book::lent(book, BASES, pool.len());
@@ -111,7 +113,7 @@ fn globals_parted(
     values: &mut [f32],
     audio: &mut [f32],
     pool: &[f32],
-) -> Done {
+) -> Result<Engine, Refusal> {
     let mut globals = trace_setup_lending::globals(desk);
     let d = run(b, book, desk, &mut globals, values, audio, pool);
     trace_setup_lending::set_globals(desk, &globals);
@@ -126,7 +128,7 @@ fn audio_parted(
     values: &mut [f32],
     audio: &mut [f32],
     pool: &[f32],
-) -> Done {
+) -> Result<Engine, Refusal> {
     let i = entry(book, AUDIO_PARTS);
     let from = trace_store_book::start(book, i, audio.len());
     let to = trace_store_book::stop(book, i, AUDIO, from, audio.len());
@@ -141,7 +143,7 @@ fn parted(
     values: &mut [f32],
     audio: &mut [f32],
     pool: &[f32],
-) -> Done {
+) -> Result<Engine, Refusal> {
     let i = entry(book, VALUES_PARTS);
     let from = trace_store_book::start(book, i, values.len());
     let to = trace_store_book::stop(book, i, VALUES, from, values.len());
@@ -160,14 +162,6 @@ fn noted(book: &mut [usize], start: usize, end: usize) {
     trace_store_book::set(book, trace_store_book::sum(NEED, OUT), end - start);
 }
 
-// a block that was run, or refused
-fn done(d: Done, start: usize, end: usize, book: &mut [usize]) -> Done {
-    if d.code == 0 {
-        noted(book, start, end);
-    }
-    d
-}
-
 // `process START END`, but for what it prints
 pub fn process(
     engine: Engine,
@@ -178,7 +172,7 @@ pub fn process(
     values: &mut [f32],
     audio: &mut [f32],
     pool: &[f32],
-) -> Done {
+) -> Result<Engine, Refusal> {
     let w = trace_input_words::pair(line);
     let b = Block {
         engine,
@@ -186,15 +180,12 @@ pub fn process(
         start: w.a,
         end: w.b,
     };
-    let d = parted(b, book, desk, values, audio, pool);
-    done(d, w.a, w.b, book)
+    let next = parted(b, book, desk, values, audio, pool)?;
+    noted(book, w.a, w.b);
+    Ok(next)
 }
 
 // ---- outputs
-
-fn failed(code: u8, at: usize) -> Told {
-    Told { code, at }
-}
 
 // the outputs, audio rows by words 1 and 2
 pub fn outputs(
@@ -206,7 +197,7 @@ pub fn outputs(
     audio: &[f32],
     out: &mut [u8],
     at: usize,
-) -> Told {
+) -> Result<usize, Stop> {
     let w = trace_input_words::pair(line);
     trace_print_report::outputs(
         stdout,
@@ -233,7 +224,7 @@ fn on_out(
     audio: &[f32],
     out: &mut [u8],
     at: usize,
-) -> Told {
+) -> Result<usize, Stop> {
     if n == 1 {
         return outputs(stdout, e, b"out 0 0", book, values, audio, out, at);
     }
@@ -252,18 +243,10 @@ fn on_latest(
     audio: &[f32],
     out: &mut [u8],
     at: usize,
-) -> Told {
+) -> Result<usize, Stop> {
     let w = trace_input_words::pair(line);
     let answer = e.latest(values_lent(values, book), audio_lent(audio, book), w.a, w.b);
-    trace_print_report::latest(stdout, answer, w.a, w.b, is_canon(book), out, at)
-}
-
-fn fill(numbers: &mut [f32], x: f32) {
-    let mut i = 0usize;
-    while i < numbers.len() {
-        numbers[i] = x;
-        i += 1usize;
-    }
+    Ok(trace_print_report::latest(stdout, answer, w.a, w.b, is_canon(book), out, at)?)
 }
 
 fn all_in(
@@ -277,15 +260,15 @@ fn all_in(
     all: &mut [f32],
     out: &mut [u8],
     at: usize,
-) -> Told {
-    fill(all, trace_print_report::unwritten());
-    let code = e.latest_all(
+) -> Result<usize, Stop> {
+    all.fill(trace_print_report::unwritten());
+    let answer = e.latest_all(
         values_lent(values, book),
         audio_lent(audio, book),
         voices,
         all,
     );
-    trace_print_report::latest_all(stdout, code, voices, each, all, is_canon(book), out, at)
+    Ok(trace_print_report::latest_all(stdout, answer, voices, each, all, is_canon(book), out, at)?)
 }
 
 // how many numbers there are for so many voices; more than there can be where a count is past the core's
@@ -310,12 +293,12 @@ fn on_latest_all(
     pool: &mut [f32],
     out: &mut [u8],
     at: usize,
-) -> Told {
+) -> Result<usize, Stop> {
     let w = trace_input_words::pair(line);
     let n = count_of(w.a, w.b);
     let from = trace_store_book::at_most(pool_top(book), pool.len());
     if pool.len() - from < n {
-        return failed(POOL_FULL, at);
+        return Err(Stop::TooLarge(Limit::Numbers));
     }
     let to = from + n;
     all_in(
@@ -342,9 +325,9 @@ fn ramp_in(
     row: &mut [f32],
     out: &mut [u8],
     at: usize,
-) -> Told {
+) -> Result<usize, Stop> {
     let answer = e.ramp(values_lent(values, book), dest, voice, row);
-    trace_print_report::ramp(stdout, answer, dest, voice, row, is_canon(book), out, at)
+    Ok(trace_print_report::ramp(stdout, answer, dest, voice, row, is_canon(book), out, at)?)
 }
 
 // `ramp DEST VOICE`
@@ -357,12 +340,12 @@ fn on_ramp(
     pool: &mut [f32],
     out: &mut [u8],
     at: usize,
-) -> Told {
+) -> Result<usize, Stop> {
     let w = trace_input_words::pair(line);
     let from = trace_store_book::at_most(pool_top(book), pool.len());
     let have = pool.len() - from;
     if have < trace_store_book::get(book, trace_store_book::sum(NEED, OUT)) {
-        return failed(POOL_FULL, at);
+        return Err(Stop::TooLarge(Limit::Numbers));
     }
     let to = from + trace_store_book::lent(book, OUT, have);
     ramp_in(
@@ -379,18 +362,21 @@ fn on_ramp(
 }
 
 // `is_active VOICE`
-fn on_is_active(stdout: Stdout, e: Engine, line: &[u8], out: &mut [u8], at: usize) -> Told {
+fn on_is_active(
+    stdout: Stdout,
+    e: Engine,
+    line: &[u8],
+    out: &mut [u8],
+    at: usize,
+) -> Result<usize, Stop> {
     let v = trace_input_words::number_at(line, 1);
-    trace_print_report::is_active(stdout, e.is_active(v), v, out, at)
+    Ok(trace_print_report::is_active(stdout, e.is_active(v), v, out, at)?)
 }
 
 // `rate DEST`
-fn on_rate(stdout: Stdout, e: Engine, line: &[u8], out: &mut [u8], at: usize) -> Told {
+fn on_rate(stdout: Stdout, e: Engine, line: &[u8], out: &mut [u8], at: usize) -> usize {
     let d = trace_input_words::number_at(line, 1);
-    failed(
-        0,
-        trace_print_report::rate(stdout, program::rate(e.program(), d), d, out, at),
-    )
+    trace_print_report::rate(stdout, program::rate(e.program(), d), d, out, at)
 }
 
 // ---- all of it
@@ -429,14 +415,11 @@ pub fn on_memory(
     audio: &[f32],
     out: &mut [u8],
     at: usize,
-) -> Told {
+) -> usize {
     let mut cell = [0u8; 64];
     let n = trace_store_titles::copied(book, trace_store_book::get(book, INSTALLED), &mut cell);
     let m = trace_store_book::at_most(n, 64);
-    failed(
-        0,
-        named_memory(stdout, e, &cell[0..m], book, values, audio, out, at),
-    )
+    named_memory(stdout, e, &cell[0..m], book, values, audio, out, at)
 }
 
 fn globals_part(desk: &[f32]) -> &[f32] {
@@ -455,19 +438,16 @@ pub fn on_state(
     pool: &[f32],
     out: &mut [u8],
     at: usize,
-) -> Told {
-    failed(
-        0,
-        trace_print_kept::state(
-            stdout,
-            e.state(),
-            desk,
-            globals_part(desk),
-            pool,
-            is_canon(book),
-            out,
-            at,
-        ),
+) -> usize {
+    trace_print_kept::state(
+        stdout,
+        e.state(),
+        desk,
+        globals_part(desk),
+        pool,
+        is_canon(book),
+        out,
+        at,
     )
 }
 
@@ -484,13 +464,13 @@ pub fn reader_line(
     pool: &mut [f32],
     out: &mut [u8],
     at: usize,
-) -> Told {
+) -> Result<usize, Stop> {
     match c {
         Reading::Out => on_out(stdout, e, line, n, book, values, audio, out, at),
         Reading::Latest => on_latest(stdout, e, line, book, values, audio, out, at),
         Reading::LatestAll => on_latest_all(stdout, e, line, book, values, audio, pool, out, at),
         Reading::Ramp => on_ramp(stdout, e, line, book, values, pool, out, at),
         Reading::IsActive => on_is_active(stdout, e, line, out, at),
-        Reading::Rate => on_rate(stdout, e, line, out, at),
+        Reading::Rate => Ok(on_rate(stdout, e, line, out, at)),
     }
 }

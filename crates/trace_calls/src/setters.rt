@@ -1,11 +1,8 @@
-// Lines that set something of the engine. Each answers the row of its call, or a number from 100 on.
-use engine::{Done, Engine, NoteOn};
+// Lines that set something of the engine. Each answers as its call does.
+use engine::{Engine, NoteOn};
+use refusal::Refusal;
 use trace_grammar::Setting;
 use trace_store_book::{BASES, GLOBALS, HELD, INSTALLED, TABLES, TABLES_PARTS};
-
-fn failed(e: Engine, code: u8) -> Done {
-    Done { code, engine: e }
-}
 
 // with the globals apart
 fn held_set(
@@ -15,14 +12,14 @@ fn held_set(
     book: &[usize],
     desk: &mut [f32],
     globals: &mut [f32],
-) -> Done {
+) -> Result<Engine, Refusal> {
     let a = trace_store_book::lent(book, HELD, desk.len());
     let b = trace_store_book::lent(book, GLOBALS, globals.len());
     e.set_held(&mut desk[0..a], &mut globals[0..b], source, x)
 }
 
 // `set_held SOURCE X`
-fn set_held(e: Engine, line: &[u8], book: &[usize], desk: &mut [f32]) -> Done {
+fn set_held(e: Engine, line: &[u8], book: &[usize], desk: &mut [f32]) -> Result<Engine, Refusal> {
     let w = trace_input_words::value(line);
     let mut globals = trace_setup_lending::globals(desk);
     let d = held_set(e, w.n, w.x, book, desk, &mut globals);
@@ -31,7 +28,12 @@ fn set_held(e: Engine, line: &[u8], book: &[usize], desk: &mut [f32]) -> Done {
 }
 
 // `set_voice_held SOURCE VOICE X`
-fn set_voice_held(e: Engine, line: &[u8], book: &[usize], desk: &mut [f32]) -> Done {
+fn set_voice_held(
+    e: Engine,
+    line: &[u8],
+    book: &[usize],
+    desk: &mut [f32],
+) -> Result<Engine, Refusal> {
     let w = trace_input_words::pair(line);
     let x = trace_input_words::float_at(line, 3);
     let a = trace_store_book::lent(book, HELD, desk.len());
@@ -39,34 +41,34 @@ fn set_voice_held(e: Engine, line: &[u8], book: &[usize], desk: &mut [f32]) -> D
 }
 
 // `set_base DEST X`
-fn set_base(e: Engine, line: &[u8], book: &[usize], pool: &mut [f32]) -> Done {
+fn set_base(e: Engine, line: &[u8], book: &[usize], pool: &mut [f32]) -> Result<Engine, Refusal> {
     let w = trace_input_words::value(line);
     let a = trace_store_book::lent(book, BASES, pool.len());
     e.set_base(&mut pool[0..a], w.n, w.x)
 }
 
 // `set_amount SLOT X`
-fn set_amount(e: Engine, line: &[u8]) -> Done {
+fn set_amount(e: Engine, line: &[u8]) -> Result<Engine, Refusal> {
     let w = trace_input_words::value(line);
     e.set_amount(w.n, w.x)
 }
 
 // `set_output SLOT X`
-fn set_output(e: Engine, line: &[u8]) -> Done {
+fn set_output(e: Engine, line: &[u8]) -> Result<Engine, Refusal> {
     let w = trace_input_words::value(line);
     e.set_output(w.n, w.x)
 }
 
 // `set_voice_limit N`
-fn set_voice_limit(e: Engine, line: &[u8]) -> Done {
+fn set_voice_limit(e: Engine, line: &[u8]) -> Engine {
     e.set_voice_limit(trace_input_words::number_at(line, 1))
 }
 
 // `set_rng HEX16`
-fn set_rng(e: Engine, line: &[u8]) -> Done {
+fn set_rng(e: Engine, line: &[u8]) -> Engine {
     let w = trace_input_session::word(line, 1);
     let draw = hex_words::hex(w, 0, w.len());
-    failed(e.with_draw(draw), 0)
+    e.with_draw(draw)
 }
 
 // ---- notes
@@ -90,7 +92,13 @@ pub fn tables_lent<'a>(pool: &'a [f32], book: &[usize]) -> &'a [f32] {
 }
 
 // `note_on VOICE KEY VELOCITY LEGATO GLIDE_SECONDS`
-fn note_on(e: Engine, line: &[u8], book: &[usize], desk: &mut [f32], pool: &[f32]) -> Done {
+fn note_on(
+    e: Engine,
+    line: &[u8],
+    book: &[usize],
+    desk: &mut [f32],
+    pool: &[f32],
+) -> Result<Engine, Refusal> {
     let v = trace_input_words::number_at(line, 1);
     let note = note_of(line);
     let a = trace_store_book::lent(book, HELD, desk.len());
@@ -98,14 +106,14 @@ fn note_on(e: Engine, line: &[u8], book: &[usize], desk: &mut [f32], pool: &[f32
 }
 
 // `note_off VOICE X`
-fn note_off(e: Engine, line: &[u8], book: &[usize], desk: &mut [f32]) -> Done {
+fn note_off(e: Engine, line: &[u8], book: &[usize], desk: &mut [f32]) -> Result<Engine, Refusal> {
     let w = trace_input_words::value(line);
     let a = trace_store_book::lent(book, HELD, desk.len());
     e.note_off(&mut desk[0..a], w.n, w.x)
 }
 
 // `voice_ended VOICE`
-fn voice_ended(e: Engine, line: &[u8], book: &[usize], desk: &[f32]) -> Done {
+fn voice_ended(e: Engine, line: &[u8], book: &[usize], desk: &[f32]) -> Result<Engine, Refusal> {
     let v = trace_input_words::number_at(line, 1);
     let a = trace_store_book::lent(book, HELD, desk.len());
     e.voice_ended(&desk[0..a], v)
@@ -119,17 +127,17 @@ pub fn setter_line(
     book: &[usize],
     desk: &mut [f32],
     pool: &mut [f32],
-) -> Done {
+) -> Result<Engine, Refusal> {
     match c {
         Setting::SetHeld => set_held(e, line, book, desk),
         Setting::SetVoiceHeld => set_voice_held(e, line, book, desk),
         Setting::SetBase => set_base(e, line, book, pool),
         Setting::SetAmount => set_amount(e, line),
         Setting::SetOutput => set_output(e, line),
-        Setting::SetVoiceLimit => set_voice_limit(e, line),
+        Setting::SetVoiceLimit => Ok(set_voice_limit(e, line)),
         Setting::NoteOn => note_on(e, line, book, desk, pool),
         Setting::NoteOff => note_off(e, line, book, desk),
         Setting::VoiceEnded => voice_ended(e, line, book, desk),
-        Setting::SetRng => set_rng(e, line),
+        Setting::SetRng => Ok(set_rng(e, line)),
     }
 }

@@ -1,11 +1,12 @@
 // The lines about an engine, and every line.
-use engine::{Done, Engine};
+use engine::Engine;
+use refusal::Refusal;
 use state::Program;
 use std::io::Stdout;
 use trace_grammar::{Command, Line, Reading, Setting};
 use trace_lines_answer::Hand;
-use trace_lines_stage::{After, State};
-use trace_print_report::Told;
+use trace_lines_stage::{After, State, stopped};
+use trace_stops::Stop;
 
 // ---- lines about the engine
 
@@ -22,36 +23,21 @@ fn on_setting(
     pool: &mut [f32],
 ) -> State {
     let before = s.engine;
-    let d = trace_calls::setter_line(before, c, line, book, desk, pool);
-    let engine = d.engine;
-    let mut next = s;
-    next.engine = engine;
-    next.at = trace_lines_answer::told(stdout, d.code, h.number, out, h.at);
-    next.code = trace_lines_answer::after(s.code, d.code);
-    next
-}
-
-// what a block prints
-fn put_block(
-    d: Done,
-    h: Hand,
-    line: &[u8],
-    book: &[usize],
-    values: &[f32],
-    audio: &[f32],
-    stdout: Stdout,
-    out: &mut [u8],
-) -> usize {
-    if d.code != 0 {
-        return trace_lines_answer::coded(stdout, d.code, h.number, out, h.at);
+    match trace_calls::setter_line(before, c, line, book, desk, pool) {
+        Err(row) => stopped(s, Stop::Refused(row), h.number, stdout, out, h.at),
+        Ok(engine) => {
+            let mut next = s;
+            next.engine = engine;
+            next.at = h.at;
+            next
+        }
     }
-    let e = d.engine;
-    trace_calls::outputs(stdout, e, line, book, values, audio, out, h.at).at
 }
 
+// the engine after a block, and what that prints
 fn with_block(
     s: State,
-    d: Done,
+    answer: Result<Engine, Refusal>,
     h: Hand,
     line: &[u8],
     book: &[usize],
@@ -60,12 +46,16 @@ fn with_block(
     stdout: Stdout,
     out: &mut [u8],
 ) -> State {
-    let engine = d.engine;
-    let mut next = s;
-    next.engine = engine;
-    next.at = put_block(d, h, line, book, values, audio, stdout, out);
-    next.code = trace_lines_answer::after(s.code, d.code);
-    next
+    match answer {
+        Err(row) => stopped(s, Stop::Refused(row), h.number, stdout, out, h.at),
+        Ok(e) => {
+            let shown = trace_calls::outputs(stdout, e, line, book, values, audio, out, h.at);
+            let mut next = s;
+            next.engine = e;
+            next.at = shown.unwrap_or(h.at);
+            next
+        }
+    }
 }
 
 // `process START END`
@@ -83,15 +73,8 @@ fn on_process(
 ) -> State {
     let e = s.engine;
     let signals = s.signals;
-    let d = trace_calls::process(e, signals, line, book, desk, values, audio, pool);
-    with_block(s, d, h, line, book, values, audio, stdout, out)
-}
-
-fn with_told(s: State, r: Told, number: u64, stdout: Stdout, out: &mut [u8]) -> State {
-    let mut next = s;
-    next.at = trace_lines_answer::told(stdout, r.code, number, out, r.at);
-    next.code = trace_lines_answer::after(s.code, r.code);
-    next
+    let answer = trace_calls::process(e, signals, line, book, desk, values, audio, pool);
+    with_block(s, answer, h, line, book, values, audio, stdout, out)
 }
 
 // lines that print what the engine answers
@@ -109,8 +92,14 @@ fn on_reading(
     pool: &mut [f32],
 ) -> State {
     let e = s.engine;
-    let r = trace_calls::reader_line(stdout, e, c, line, n, book, values, audio, pool, out, h.at);
-    with_told(s, r, h.number, stdout, out)
+    match trace_calls::reader_line(stdout, e, c, line, n, book, values, audio, pool, out, h.at) {
+        Err(stop) => stopped(s, stop, h.number, stdout, out, h.at),
+        Ok(at) => {
+            let mut next = s;
+            next.at = at;
+            next
+        }
+    }
 }
 
 // `state`
@@ -128,7 +117,7 @@ fn on_state(
     }
     let e = s.engine;
     let mut next = s;
-    next.at = trace_calls::on_state(stdout, e, book, desk, pool, out, h.at).at;
+    next.at = trace_calls::on_state(stdout, e, book, desk, pool, out, h.at);
     next
 }
 
@@ -147,7 +136,7 @@ fn on_memory(
     }
     let e = s.engine;
     let mut next = s;
-    next.at = trace_calls::on_memory(stdout, e, book, values, audio, out, h.at).at;
+    next.at = trace_calls::on_memory(stdout, e, book, values, audio, out, h.at);
     next
 }
 
@@ -157,11 +146,11 @@ fn after(state: State, i: usize, program: Program) -> After {
     After { state, i, program }
 }
 
-// a line that ends the session
-fn stopped(s: State, h: Hand) -> State {
+// a line in hand that ends the session
+fn ended(s: State, h: Hand) -> State {
     let mut next = s;
     next.at = h.at;
-    next.code = h.code;
+    next.stop = h.stop;
     next
 }
 
@@ -239,8 +228,8 @@ pub fn on_line(
     audio: &mut [f32],
     pool: &mut [f32],
 ) -> After {
-    if h.code != 0 {
-        return after(stopped(s, h), i, p);
+    if h.stop.is_some() {
+        return after(ended(s, h), i, p);
     }
     let said = h.said;
     let Line::Call { command, words } = said else {

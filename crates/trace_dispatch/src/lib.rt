@@ -32,14 +32,12 @@ fn no_engine(config: Config) -> Engine {
     let mut globals = [0.0f32; 1];
     let mut bases = [0.0f32; 1];
     let made = Engine::new(sources, dests, config, &mut held, &mut globals, &mut bases);
-    made.engine
+    made.unwrap_or(Engine::bare())
 }
 
 // some program, of which a session's programs are made before any line
 pub fn no_program() -> Program {
-    let config = start_config();
-    let compiled = program::empty(config);
-    compiled.program
+    compile::empty_of(start_config())
 }
 
 fn start_config() -> Config {
@@ -67,7 +65,7 @@ pub fn start() -> State {
     let signals = engine::no_signals();
     State {
         at: 0,
-        code: 0,
+        stop: None,
         engine,
         signals,
         preset,
@@ -90,12 +88,12 @@ pub fn begun(
 // The end of a session, whose input can't be read to its end where `failed` says so: the last line of its trace, and the digit that
 // says how it ended.
 pub fn end(s: State, failed: bool, number: u64, rt: HostRuntime, out: &mut [u8]) {
-    let code = trace_lines_answer::unread(s.code, failed);
-    let at = trace_lines_answer::told(rt.stdout(), code, number, out, s.at);
+    let unread = trace_lines_answer::unread(s.stop, failed);
+    let at = trace_lines_answer::told(rt.stdout(), unread, number, out, s.at);
     trace_output_show::end(rt.stdout(), out, at);
     let lost = trace_output_show::is_lost(out);
     trace_output_show::status(
         rt,
-        trace_lines_answer::status(trace_lines_answer::after(s.code, code), lost),
+        trace_lines_answer::status(trace_lines_answer::after(s.stop, unread), lost),
     );
 }

@@ -1,17 +1,18 @@
 -- Laws on the rest of a line, word by word. Assumes nothing.
 use mathlib.Core.Path.{◌≡◌, refl, ap, sym, ◌∙◌}
-use mathlib.Core.Bool.{Bool, true, false, cond}
-use mathlib.Core.List.{List, [], ◌∷◌, map}
-use Prim.Native.Nat.{ℕ, suc, ◌+◌, ◌*◌, ◌<◌, ◌≤◌}
+use mathlib.Core.Bool.{Bool, true, false, cond, ◌&&◌}
+use mathlib.Core.List.{List, [], ◌∷◌, ◌++◌}
+use Prim.Native.Nat.{ℕ, zero, suc, ◌+◌, ◌*◌, ◌<◌, ◌≤◌}
 use native.Mathlib.Omega.{arith}
-use borrow.Author.Tests.{ltb-true, ltb-false, lt-ltb, le-ltb, eq-eqb, ne_eqb}
+use borrow.Author.Tests.{ltb-true, ltb-false, lt-ltb, le-ltb, eq-eqb, ne_eqb, eqb-true}
 use lib.Dec.{ltb, eqb}
 use lib.Seq.{drop-cons}
-use lib.ListN.{length, drop, get_or, get_or-eq_default, get_or-map}
+use lib.ListN.{length, drop, get_or, get_or-eq_default, get_or-append}
+use Rattle.std.proofs.lemmas.List.{get_or-append-add}
 use Rattle.trace_input_session.specs.Lines.{is_blank, word_from, words_from, words_of, index_of, Passed, Skipped}
 use Rattle.trace_input_session.specs.Words.{same_bytes}
 use Rattle.trace_input_session.proofs.Walks.{word-begins, words-past}
-use Rattle.trace_grammar_kinds.specs.Kinds.{fits, class_of, kind_of, kind_list}
+use Rattle.trace_grammar_kinds.specs.Kinds.{fits, class_of}
 use Rattle.trace_grammar_kinds.specs.Texts.{commands, specs, samples}
 use Rattle.trace_grammar_kinds.specs.declared.Kind.{Kind}
 use Rattle.trace_grammar_kinds.specs.declared.Kind.TheVariants.{End, Command}
@@ -146,82 +147,31 @@ line-call l w at row r x k h e i s inside q y =
     ∙ ap (λ (vs : List (List ℕ)). rest_of (7 * index_of commands (word_from (drop at l))) 1 (command_at (index_of commands (word_from (drop at l)))) vs) q.rest
     ∙ sym (of_words l _ (first-words l at k h) ∙ is_call _ _ (no-comment l at k h e) b)
 
--- the table by the numbers of its kinds
-abbrev pub codes : List ℕ
-codes =
-    6 ∷ 1 ∷ 1 ∷ 0 ∷ 0 ∷ 0 ∷ 0 ∷  -- config
-    9 ∷ 24 ∷ 25 ∷ 26 ∷ 0 ∷ 0 ∷ 0 ∷  -- source
-    14 ∷ 25 ∷ 27 ∷ 6 ∷ 6 ∷ 15 ∷ 0 ∷  -- dest
-    0 ∷ 0 ∷ 0 ∷ 0 ∷ 0 ∷ 0 ∷ 0 ∷  -- newreg
-    9 ∷ 0 ∷ 0 ∷ 0 ∷ 0 ∷ 0 ∷ 0 ∷  -- find
-    11 ∷ 22 ∷ 0 ∷ 0 ∷ 0 ∷ 0 ∷ 0 ∷  -- table
-    1 ∷ 16 ∷ 0 ∷ 0 ∷ 0 ∷ 0 ∷ 0 ∷  -- slot
-    12 ∷ 12 ∷ 8 ∷ 8 ∷ 0 ∷ 0 ∷ 0 ∷  -- note
-    0 ∷ 0 ∷ 0 ∷ 0 ∷ 0 ∷ 0 ∷ 0 ∷  -- clear
-    3 ∷ 4 ∷ 6 ∷ 0 ∷ 0 ∷ 0 ∷ 0 ∷  -- matrix_put
-    11 ∷ 0 ∷ 0 ∷ 0 ∷ 0 ∷ 0 ∷ 0 ∷  -- compile
-    13 ∷ 0 ∷ 0 ∷ 0 ∷ 0 ∷ 0 ∷ 0 ∷  -- swap
-    0 ∷ 0 ∷ 0 ∷ 0 ∷ 0 ∷ 0 ∷ 0 ∷  -- engine
-    29 ∷ 18 ∷ 0 ∷ 0 ∷ 0 ∷ 0 ∷ 0 ∷  -- memory_len
-    28 ∷ 0 ∷ 0 ∷ 0 ∷ 0 ∷ 0 ∷ 0 ∷  -- print
-    8 ∷ 0 ∷ 0 ∷ 0 ∷ 0 ∷ 0 ∷ 0 ∷  -- canon
-    1 ∷ 1 ∷ 23 ∷ 0 ∷ 0 ∷ 0 ∷ 0 ∷  -- bind
-    2 ∷ 0 ∷ 0 ∷ 0 ∷ 0 ∷ 0 ∷ 0 ∷  -- unbind
-    5 ∷ 19 ∷ 19 ∷ 1 ∷ 0 ∷ 0 ∷ 0 ∷  -- signal_part
-    1 ∷ 6 ∷ 0 ∷ 0 ∷ 0 ∷ 0 ∷ 0 ∷  -- set_held
-    1 ∷ 1 ∷ 6 ∷ 0 ∷ 0 ∷ 0 ∷ 0 ∷  -- set_voice_held
-    1 ∷ 6 ∷ 0 ∷ 0 ∷ 0 ∷ 0 ∷ 0 ∷  -- set_base
-    1 ∷ 6 ∷ 0 ∷ 0 ∷ 0 ∷ 0 ∷ 0 ∷  -- set_amount
-    1 ∷ 6 ∷ 0 ∷ 0 ∷ 0 ∷ 0 ∷ 0 ∷  -- set_output
-    1 ∷ 0 ∷ 0 ∷ 0 ∷ 0 ∷ 0 ∷ 0 ∷  -- set_voice_limit
-    1 ∷ 6 ∷ 6 ∷ 8 ∷ 6 ∷ 0 ∷ 0 ∷  -- note_on
-    1 ∷ 6 ∷ 0 ∷ 0 ∷ 0 ∷ 0 ∷ 0 ∷  -- note_off
-    1 ∷ 0 ∷ 0 ∷ 0 ∷ 0 ∷ 0 ∷ 0 ∷  -- voice_ended
-    17 ∷ 0 ∷ 0 ∷ 0 ∷ 0 ∷ 0 ∷ 0 ∷  -- set_rng
-    1 ∷ 1 ∷ 0 ∷ 0 ∷ 0 ∷ 0 ∷ 0 ∷  -- process
-    2 ∷ 1 ∷ 0 ∷ 0 ∷ 0 ∷ 0 ∷ 0 ∷  -- out
-    1 ∷ 1 ∷ 0 ∷ 0 ∷ 0 ∷ 0 ∷ 0 ∷  -- latest
-    1 ∷ 1 ∷ 0 ∷ 0 ∷ 0 ∷ 0 ∷ 0 ∷  -- latest_all
-    1 ∷ 1 ∷ 0 ∷ 0 ∷ 0 ∷ 0 ∷ 0 ∷  -- ramp
-    1 ∷ 0 ∷ 0 ∷ 0 ∷ 0 ∷ 0 ∷ 0 ∷  -- is_active
-    1 ∷ 0 ∷ 0 ∷ 0 ∷ 0 ∷ 0 ∷ 0 ∷  -- rate
-    0 ∷ 0 ∷ 0 ∷ 0 ∷ 0 ∷ 0 ∷ 0 ∷  -- state
-    0 ∷ 0 ∷ 0 ∷ 0 ∷ 0 ∷ 0 ∷ 0 ∷  -- memory
-    1 ∷ 1 ∷ 1 ∷ 1 ∷ 10 ∷ 0 ∷ 0 ∷  -- standard
-    1 ∷ 22 ∷ 0 ∷ 0 ∷ 0 ∷ 0 ∷ 0 ∷  -- len of a table
-    1 ∷ 6 ∷ 22 ∷ 0 ∷ 0 ∷ 0 ∷ 0 ∷  -- put of a table
-    0 ∷ 0 ∷ 0 ∷ 0 ∷ 0 ∷ 0 ∷ 0 ∷  -- lin of a table
-    0 ∷ 0 ∷ 0 ∷ 0 ∷ 0 ∷ 0 ∷ 0 ∷  -- rev of a table
-    0 ∷ 0 ∷ 0 ∷ 0 ∷ 0 ∷ 0 ∷ 0 ∷  -- sq of a table
-    6 ∷ 0 ∷ 0 ∷ 0 ∷ 0 ∷ 0 ∷ 0 ∷  -- const of a table
-    1 ∷ 6 ∷ 6 ∷ 0 ∷ 0 ∷ 0 ∷ 0 ∷  -- step of a table
-    1 ∷ 20 ∷ 21 ∷ 0 ∷ 0 ∷ 0 ∷ 0 ∷  -- gen of a table
-    7 ∷ 0 ∷ 0 ∷ 0 ∷ 0 ∷ 0 ∷ 0 ∷  -- hex of a table
-    7 ∷ 0 ∷ 0 ∷ 0 ∷ 0 ∷ 0 ∷ 0 ∷  -- hex of `bind`
-    1 ∷ 1 ∷ 21 ∷ 0 ∷ 0 ∷ 0 ∷ 0 ∷  -- gen of `bind`
-    []
+-- ---- the table, row by row
+abbrev pub joined : List (List Kind) → List Kind
+joined [] = []
+joined (x ∷ xs) = x ++ joined xs
 
-coded : map kind_of codes ≡ table
-unfolding kind_of kind_list table
-coded = refl
+abbrev pub sevens : List (List Kind) → Bool
+sevens [] = true
+sevens (x ∷ xs) = eqb (length x) 7 && sevens xs
 
-none-coded : kind_of 0 ≡ End
-unfolding kind_of kind_list
-none-coded = refl
+and-first : (a b : Bool) → (a && b) ≡ true → a ≡ true
+and-first true b t = refl
+and-first false b t = t
 
-pub code_inside : (s : ℕ) → kind_of (get_or codes s 0) ≡ kind_at s
-unfolding kind_at
-code_inside s = sym (get_or-map kind_of codes s 0) ∙ ap (λ (t : List Kind). get_or t s (kind_of 0)) coded ∙ ap (λ (k : Kind). get_or table s k) none-coded
+and-second : (a b : Bool) → (a && b) ≡ true → b ≡ true
+and-second true b t = t
+and-second false b t = cc
 
-pub code-past : (s : ℕ) → 350 ≤ s → kind_of 0 ≡ kind_at s
-unfolding kind_at table
-code-past s h = none-coded ∙ sym (get_or-eq_default table End h)
-
--- the last command, and every row past it
-pub standard-from : (row : ℕ) → 38 ≤ row → Standard ≡ command_at row
-unfolding command_list
-standard-from row h = by-test (ltb row 39) refl
-  where
-    by-test : (t : Bool) → ltb row 39 ≡ t → Standard ≡ get_or command_list row Standard
-    by-test true p = let below : row < 39 = ltb-true row 39 p in let e : row ≡ 38 = omega arith in rw e
-    by-test false p = sym (get_or-eq_default command_list Standard (ltb-false row 39 p))
+-- place 7 q + r is place r of row q
+pub at-place : (xs : List (List Kind)) (q r : ℕ) → sevens xs ≡ true → r < 7 → get_or (get_or xs q []) r End ≡ get_or (joined xs) (7 * q + r) End
+at-place [] q r t h = refl
+at-place (x ∷ xs) zero r t h =
+    let e : 7 * 0 + r ≡ r = omega arith in
+    let k : r < length x = omega (arith, eqb-true (length x) 7 (and-first _ _ t)) in
+    rw e (sym (get_or-append x (joined xs) End r k))
+at-place (x ∷ xs) (suc q) r t h =
+    let n : length x ≡ 7 = eqb-true (length x) 7 (and-first _ _ t) in
+    let e : 7 * suc q + r ≡ length x + (7 * q + r) = omega (arith, n) in
+    rw e (at-place xs q r (and-second _ _ t) h ∙ sym (get_or-append-add x (joined xs) (7 * q + r) End))

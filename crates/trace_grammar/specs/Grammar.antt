@@ -7,6 +7,8 @@ use Rattle.trace_grammar.specs.Commands.{command_at}
 use Rattle.trace_grammar.specs.declared.Command as command
 use Rattle.trace_grammar.specs.declared.Line.{Line}
 use Rattle.trace_grammar.specs.declared.Line.TheVariants.{Nothing, Call, Missing, Wrong}
+use Rattle.trace_grammar_kinds.specs.declared.Class as class
+use Rattle.trace_grammar_kinds.specs.declared.Class.TheVariants as after
 use Rattle.trace_grammar_kinds.specs.declared.Kind.{Kind}
 use Rattle.trace_grammar_kinds.specs.declared.Kind.TheVariants.{End, Whole, MaybeWhole, Place, Entry, Source, Number}
 use Rattle.trace_grammar_kinds.specs.declared.Kind.TheVariants.{Numbers, Flag, Key, Keys, Name, Table, Program, Target}
@@ -74,16 +76,24 @@ unfoldable pub kind_at : ℕ → Kind
 kind_at s = get_or table s End
 
 -- the place after a word at place s, by what comes after words of its kind
-unfoldable pub after_class : ℕ → ℕ → List ℕ → ℕ
-after_class n s w =
-    cond (eqb n 1) s
-    (cond (eqb n 2) (7 * (39 + index_of specs w))
-    (cond (eqb n 3) (7 * (48 + index_of samples w))
-    (cond (eqb n 4) (cond (is_of letters 6 w) (s + 2) (s + 1)) (s + 1))))
+unfoldable pub after_class : class.Class → ℕ → List ℕ → ℕ
+after_class after.Single s w = s + 1
+after_class after.Repeated s w = s
+after_class after.Spec s w = 7 * (39 + index_of specs w)
+after_class after.Samples s w = 7 * (48 + index_of samples w)
+after_class after.Letter s w = cond (is_of letters 6 w) (s + 2) (s + 1)
+after_class after.Optional s w = s + 1
+after_class after.Over s w = s + 1
 
 -- whether a line may end before a place, by what comes after words of its kind
-unfoldable pub ends_class : ℕ → Bool
-ends_class n = cond (eqb n 1) true (cond (ltb n 5) false true)
+unfoldable pub ends_class : class.Class → Bool
+ends_class after.Single = false
+ends_class after.Repeated = true
+ends_class after.Spec = false
+ends_class after.Samples = false
+ends_class after.Letter = false
+ends_class after.Optional = true
+ends_class after.Over = true
 
 -- the rest of a line of command c, of which k words are read: its words stand at place s and on
 unfoldable pub rest_of : ℕ → ℕ → command.Command → List (List ℕ) → Line

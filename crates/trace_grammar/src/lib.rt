@@ -5,10 +5,14 @@
 ghost use Rattle.std.specs.Prelude.{◌≡◌, false, ◌+◌, ◌*◌, ◌<◌, ◌≤◌, [], drop, get_or, length};
 ghost use Rattle.trace_grammar.specs.Commands.{command_at};
 ghost use Rattle.trace_grammar.specs.Grammar.{after_class, ends_class, kind_at, line_of, rest_of};
-ghost use Rattle.trace_grammar_kinds.specs.Kinds.{kind_of};
 ghost use Rattle.trace_input_session.specs.Lines.{is_blank, words_of};
 
-use trace_grammar_kinds::Kind;
+use trace_grammar_kinds::Kind::{
+    Draw, End, Entry, Feed, Fields, Flag, Key, Keys, Length, LengthOrLetter, Letter, MaybeWhole,
+    Name, Number, Numbers, Part, Place, Program, Range, Rate, Samples, Scope, Source, SourceKind,
+    Spec, Table, Target, Whole,
+};
+use trace_grammar_kinds::{Class, Kind};
 
 // ---- commands
 
@@ -92,674 +96,149 @@ pub enum Command {
     Standard,
 }
 
-// How many commands there are.
-const COMMANDS: usize = 39;
-
-// the command of a row from 30 on
-fn command_from_30(row: usize) -> Command
-    requires { 30 ≤ row }
-    ensures { result ≡ command_at row }
-{
-    if row < 31 {
-        return Command::Reading(Reading::Out);
-    }
-    if row < 32 {
-        return Command::Reading(Reading::Latest);
-    }
-    if row < 33 {
-        return Command::Reading(Reading::LatestAll);
-    }
-    if row < 34 {
-        return Command::Reading(Reading::Ramp);
-    }
-    if row < 35 {
-        return Command::Reading(Reading::IsActive);
-    }
-    if row < 36 {
-        return Command::Reading(Reading::Rate);
-    }
-    if row < 37 {
-        return Command::State;
-    }
-    if row < 38 {
-        return Command::Memory;
-    }
-    Command::Standard
-}
-
-// the command of a row from 20 on
-fn command_from_20(row: usize) -> Command
-    requires { 20 ≤ row }
-    ensures { result ≡ command_at row }
-{
-    if row < 21 {
-        return Command::Setting(Setting::SetVoiceHeld);
-    }
-    if row < 22 {
-        return Command::Setting(Setting::SetBase);
-    }
-    if row < 23 {
-        return Command::Setting(Setting::SetAmount);
-    }
-    if row < 24 {
-        return Command::Setting(Setting::SetOutput);
-    }
-    if row < 25 {
-        return Command::Setting(Setting::SetVoiceLimit);
-    }
-    if row < 26 {
-        return Command::Setting(Setting::NoteOn);
-    }
-    if row < 27 {
-        return Command::Setting(Setting::NoteOff);
-    }
-    if row < 28 {
-        return Command::Setting(Setting::VoiceEnded);
-    }
-    if row < 29 {
-        return Command::Setting(Setting::SetRng);
-    }
-    if row < 30 {
-        return Command::Process;
-    }
-    command_from_30(row)
-}
-
-// the command of a row from 10 on
-fn command_from_10(row: usize) -> Command
-    requires { 10 ≤ row }
-    ensures { result ≡ command_at row }
-{
-    if row < 11 {
-        return Command::Making(Making::Compile);
-    }
-    if row < 12 {
-        return Command::Making(Making::Swap);
-    }
-    if row < 13 {
-        return Command::Making(Making::Engine);
-    }
-    if row < 14 {
-        return Command::Lending(Lending::MemoryLen);
-    }
-    if row < 15 {
-        return Command::Lending(Lending::Print);
-    }
-    if row < 16 {
-        return Command::Lending(Lending::Canon);
-    }
-    if row < 17 {
-        return Command::Lending(Lending::Bind);
-    }
-    if row < 18 {
-        return Command::Lending(Lending::Unbind);
-    }
-    if row < 19 {
-        return Command::Lending(Lending::SignalPart);
-    }
-    if row < 20 {
-        return Command::Setting(Setting::SetHeld);
-    }
-    command_from_20(row)
-}
+// The commands, in the order of their words.
+const COMMANDS: [Command; 39] = [
+    Command::Registry(Registry::Config),
+    Command::Registry(Registry::Source),
+    Command::Registry(Registry::Dest),
+    Command::Registry(Registry::Newreg),
+    Command::Registry(Registry::Find),
+    Command::Editing(Editing::Table),
+    Command::Editing(Editing::Slot),
+    Command::Editing(Editing::Note),
+    Command::Editing(Editing::Clear),
+    Command::Editing(Editing::MatrixPut),
+    Command::Making(Making::Compile),
+    Command::Making(Making::Swap),
+    Command::Making(Making::Engine),
+    Command::Lending(Lending::MemoryLen),
+    Command::Lending(Lending::Print),
+    Command::Lending(Lending::Canon),
+    Command::Lending(Lending::Bind),
+    Command::Lending(Lending::Unbind),
+    Command::Lending(Lending::SignalPart),
+    Command::Setting(Setting::SetHeld),
+    Command::Setting(Setting::SetVoiceHeld),
+    Command::Setting(Setting::SetBase),
+    Command::Setting(Setting::SetAmount),
+    Command::Setting(Setting::SetOutput),
+    Command::Setting(Setting::SetVoiceLimit),
+    Command::Setting(Setting::NoteOn),
+    Command::Setting(Setting::NoteOff),
+    Command::Setting(Setting::VoiceEnded),
+    Command::Setting(Setting::SetRng),
+    Command::Process,
+    Command::Reading(Reading::Out),
+    Command::Reading(Reading::Latest),
+    Command::Reading(Reading::LatestAll),
+    Command::Reading(Reading::Ramp),
+    Command::Reading(Reading::IsActive),
+    Command::Reading(Reading::Rate),
+    Command::State,
+    Command::Memory,
+    Command::Standard,
+];
 
 // the command of a row
+#[tactic(auto, unfolding(crate::specs::Commands::command_list))]
 fn command_at(row: usize) -> Command
     ensures { result ≡ command_at row }
 {
-    if row < 1 {
-        return Command::Registry(Registry::Config);
+    if row < COMMANDS.len() {
+        COMMANDS[row]
+    } else {
+        Command::Standard
     }
-    if row < 2 {
-        return Command::Registry(Registry::Source);
-    }
-    if row < 3 {
-        return Command::Registry(Registry::Dest);
-    }
-    if row < 4 {
-        return Command::Registry(Registry::Newreg);
-    }
-    if row < 5 {
-        return Command::Registry(Registry::Find);
-    }
-    if row < 6 {
-        return Command::Editing(Editing::Table);
-    }
-    if row < 7 {
-        return Command::Editing(Editing::Slot);
-    }
-    if row < 8 {
-        return Command::Editing(Editing::Note);
-    }
-    if row < 9 {
-        return Command::Editing(Editing::Clear);
-    }
-    if row < 10 {
-        return Command::Editing(Editing::MatrixPut);
-    }
-    command_from_10(row)
 }
 
 // ---- the table
 
-// The kinds by number (trace_grammar_kinds::kind_of).
-const END: u8 = 0;
-
-const WHOLE: u8 = 1;
-
-const MAYBE_WHOLE: u8 = 2;
-
-const PLACE: u8 = 3;
-
-const ENTRY: u8 = 4;
-
-const SOURCE: u8 = 5;
-
-const NUMBER: u8 = 6;
-
-const NUMBERS: u8 = 7;
-
-const FLAG: u8 = 8;
-
-const KEY: u8 = 9;
-
-const KEYS: u8 = 10;
-
-const NAME: u8 = 11;
-
-const TABLE: u8 = 12;
-
-const PROGRAM: u8 = 13;
-
-const TARGET: u8 = 14;
-
-const FEED: u8 = 15;
-
-const FIELDS: u8 = 16;
-
-const DRAW: u8 = 17;
-
-const LENGTH: u8 = 18;
-
-const PART: u8 = 19;
-
-const LENGTH_OR_LETTER: u8 = 20;
-
-const LETTER: u8 = 21;
-
-const SPEC: u8 = 22;
-
-const SAMPLES: u8 = 23;
-
-const SOURCE_KIND: u8 = 24;
-
-const SCOPE: u8 = 25;
-
-const RANGE: u8 = 26;
-
-const RATE: u8 = 27;
-
-const MODE: u8 = 28;
-
-const MEMORY: u8 = 29;
-
-// How many places there are, 7 to a row.
-const PLACES: usize = 350;
-
-const ROWS: [u8; PLACES] = [
-    // config
-    NUMBER,
-    WHOLE,
-    WHOLE,
-    END,
-    END,
-    END,
-    END,
-    // source
-    KEY,
-    SOURCE_KIND,
-    SCOPE,
-    RANGE,
-    END,
-    END,
-    END,
-    // dest
-    TARGET,
-    SCOPE,
-    RATE,
-    NUMBER,
-    NUMBER,
-    FEED,
-    END,
-    // newreg
-    END,
-    END,
-    END,
-    END,
-    END,
-    END,
-    END,
-    // find
-    KEY,
-    END,
-    END,
-    END,
-    END,
-    END,
-    END,
-    // table
-    NAME,
-    SPEC,
-    END,
-    END,
-    END,
-    END,
-    END,
-    // slot
-    WHOLE,
-    FIELDS,
-    END,
-    END,
-    END,
-    END,
-    END,
-    // note
-    TABLE,
-    TABLE,
-    FLAG,
-    FLAG,
-    END,
-    END,
-    END,
-    // clear
-    END,
-    END,
-    END,
-    END,
-    END,
-    END,
-    END,
-    // matrix_put
-    PLACE,
-    ENTRY,
-    NUMBER,
-    END,
-    END,
-    END,
-    END,
-    // compile
-    NAME,
-    END,
-    END,
-    END,
-    END,
-    END,
-    END,
-    // swap
-    PROGRAM,
-    END,
-    END,
-    END,
-    END,
-    END,
-    END,
-    // engine
-    END,
-    END,
-    END,
-    END,
-    END,
-    END,
-    END,
-    // memory_len
-    MEMORY,
-    LENGTH,
-    END,
-    END,
-    END,
-    END,
-    END,
-    // print
-    MODE,
-    END,
-    END,
-    END,
-    END,
-    END,
-    END,
-    // canon
-    FLAG,
-    END,
-    END,
-    END,
-    END,
-    END,
-    END,
-    // bind
-    WHOLE,
-    WHOLE,
-    SAMPLES,
-    END,
-    END,
-    END,
-    END,
-    // unbind
-    MAYBE_WHOLE,
-    END,
-    END,
-    END,
-    END,
-    END,
-    END,
-    // signal_part
-    SOURCE,
-    PART,
-    PART,
-    WHOLE,
-    END,
-    END,
-    END,
-    // set_held
-    WHOLE,
-    NUMBER,
-    END,
-    END,
-    END,
-    END,
-    END,
-    // set_voice_held
-    WHOLE,
-    WHOLE,
-    NUMBER,
-    END,
-    END,
-    END,
-    END,
-    // set_base
-    WHOLE,
-    NUMBER,
-    END,
-    END,
-    END,
-    END,
-    END,
-    // set_amount
-    WHOLE,
-    NUMBER,
-    END,
-    END,
-    END,
-    END,
-    END,
-    // set_output
-    WHOLE,
-    NUMBER,
-    END,
-    END,
-    END,
-    END,
-    END,
-    // set_voice_limit
-    WHOLE,
-    END,
-    END,
-    END,
-    END,
-    END,
-    END,
-    // note_on
-    WHOLE,
-    NUMBER,
-    NUMBER,
-    FLAG,
-    NUMBER,
-    END,
-    END,
-    // note_off
-    WHOLE,
-    NUMBER,
-    END,
-    END,
-    END,
-    END,
-    END,
-    // voice_ended
-    WHOLE,
-    END,
-    END,
-    END,
-    END,
-    END,
-    END,
-    // set_rng
-    DRAW,
-    END,
-    END,
-    END,
-    END,
-    END,
-    END,
-    // process
-    WHOLE,
-    WHOLE,
-    END,
-    END,
-    END,
-    END,
-    END,
-    // out
-    MAYBE_WHOLE,
-    WHOLE,
-    END,
-    END,
-    END,
-    END,
-    END,
-    // latest
-    WHOLE,
-    WHOLE,
-    END,
-    END,
-    END,
-    END,
-    END,
-    // latest_all
-    WHOLE,
-    WHOLE,
-    END,
-    END,
-    END,
-    END,
-    END,
-    // ramp
-    WHOLE,
-    WHOLE,
-    END,
-    END,
-    END,
-    END,
-    END,
-    // is_active
-    WHOLE,
-    END,
-    END,
-    END,
-    END,
-    END,
-    END,
-    // rate
-    WHOLE,
-    END,
-    END,
-    END,
-    END,
-    END,
-    END,
-    // state
-    END,
-    END,
-    END,
-    END,
-    END,
-    END,
-    END,
-    // memory
-    END,
-    END,
-    END,
-    END,
-    END,
-    END,
-    END,
-    // standard
-    WHOLE,
-    WHOLE,
-    WHOLE,
-    WHOLE,
-    KEYS,
-    END,
-    END,
-    // len of a table
-    WHOLE,
-    SPEC,
-    END,
-    END,
-    END,
-    END,
-    END,
-    // put of a table
-    WHOLE,
-    NUMBER,
-    SPEC,
-    END,
-    END,
-    END,
-    END,
-    // lin of a table
-    END,
-    END,
-    END,
-    END,
-    END,
-    END,
-    END,
-    // rev of a table
-    END,
-    END,
-    END,
-    END,
-    END,
-    END,
-    END,
-    // sq of a table
-    END,
-    END,
-    END,
-    END,
-    END,
-    END,
-    END,
-    // const of a table
-    NUMBER,
-    END,
-    END,
-    END,
-    END,
-    END,
-    END,
-    // step of a table
-    WHOLE,
-    NUMBER,
-    NUMBER,
-    END,
-    END,
-    END,
-    END,
-    // gen of a table
-    WHOLE,
-    LENGTH_OR_LETTER,
-    LETTER,
-    END,
-    END,
-    END,
-    END,
-    // hex of a table
-    NUMBERS,
-    END,
-    END,
-    END,
-    END,
-    END,
-    END,
-    // hex of `bind`
-    NUMBERS,
-    END,
-    END,
-    END,
-    END,
-    END,
-    END,
-    // gen of `bind`
-    WHOLE,
-    WHOLE,
-    LETTER,
-    END,
-    END,
-    END,
-    END,
+// What may stand after the word that names a row, 7 places to a row.
+const ROWS: [[Kind; 7]; 50] = [
+    [Number, Whole, Whole, End, End, End, End], // config
+    [Key, SourceKind, Scope, Range, End, End, End], // source
+    [Target, Scope, Rate, Number, Number, Feed, End], // dest
+    [End, End, End, End, End, End, End], // newreg
+    [Key, End, End, End, End, End, End], // find
+    [Name, Spec, End, End, End, End, End], // table
+    [Whole, Fields, End, End, End, End, End], // slot
+    [Table, Table, Flag, Flag, End, End, End], // note
+    [End, End, End, End, End, End, End], // clear
+    [Place, Entry, Number, End, End, End, End], // matrix_put
+    [Name, End, End, End, End, End, End], // compile
+    [Program, End, End, End, End, End, End], // swap
+    [End, End, End, End, End, End, End], // engine
+    [Kind::Memory, Length, End, End, End, End, End], // memory_len
+    [Kind::Mode, End, End, End, End, End, End], // print
+    [Flag, End, End, End, End, End, End], // canon
+    [Whole, Whole, Samples, End, End, End, End], // bind
+    [MaybeWhole, End, End, End, End, End, End], // unbind
+    [Source, Part, Part, Whole, End, End, End], // signal_part
+    [Whole, Number, End, End, End, End, End], // set_held
+    [Whole, Whole, Number, End, End, End, End], // set_voice_held
+    [Whole, Number, End, End, End, End, End], // set_base
+    [Whole, Number, End, End, End, End, End], // set_amount
+    [Whole, Number, End, End, End, End, End], // set_output
+    [Whole, End, End, End, End, End, End], // set_voice_limit
+    [Whole, Number, Number, Flag, Number, End, End], // note_on
+    [Whole, Number, End, End, End, End, End], // note_off
+    [Whole, End, End, End, End, End, End], // voice_ended
+    [Draw, End, End, End, End, End, End], // set_rng
+    [Whole, Whole, End, End, End, End, End], // process
+    [MaybeWhole, Whole, End, End, End, End, End], // out
+    [Whole, Whole, End, End, End, End, End], // latest
+    [Whole, Whole, End, End, End, End, End], // latest_all
+    [Whole, Whole, End, End, End, End, End], // ramp
+    [Whole, End, End, End, End, End, End], // is_active
+    [Whole, End, End, End, End, End, End], // rate
+    [End, End, End, End, End, End, End], // state
+    [End, End, End, End, End, End, End], // memory
+    [Whole, Whole, Whole, Whole, Keys, End, End], // standard
+    [Whole, Spec, End, End, End, End, End], // len of a table
+    [Whole, Number, Spec, End, End, End, End], // put of a table
+    [End, End, End, End, End, End, End], // lin of a table
+    [End, End, End, End, End, End, End], // rev of a table
+    [End, End, End, End, End, End, End], // sq of a table
+    [Number, End, End, End, End, End, End], // const of a table
+    [Whole, Number, Number, End, End, End, End], // step of a table
+    [Whole, LengthOrLetter, Letter, End, End, End, End], // gen of a table
+    [Numbers, End, End, End, End, End, End], // hex of a table
+    [Numbers, End, End, End, End, End, End], // hex of `bind`
+    [Whole, Whole, Letter, End, End, End, End], // gen of `bind`
 ];
-
-// the number of the kind at a place
-fn code_at(s: usize) -> u8
-    ensures { kind_of result ≡ kind_at s }
-{
-    if s < PLACES {
-        return ROWS[s];
-    }
-    END
-}
 
 // the kind at a place
 fn kind_at(s: usize) -> Kind
     ensures { result ≡ kind_at s }
 {
-    trace_grammar_kinds::kind_of(code_at(s))
+    if s / 7 < ROWS.len() {
+        ROWS[s / 7][s % 7]
+    } else {
+        End
+    }
 }
 
 // the place after a word at place s, by what comes after words of its kind
-fn after(class: u8, s: usize, w: &[u8]) -> usize
+#[tactic(auto, unfolding(crate::specs::Grammar::after_class))]
+fn after(class: Class, s: usize, w: &[u8]) -> usize
     requires { s < 350 }
     ensures { result ≡ after_class class s w.now }
 {
-    if class == 1 {
-        return s;
+    match class {
+        Class::Repeated => s,
+        Class::Spec => 7 * (39 + trace_grammar_kinds::spec_row(w)),
+        Class::Samples => 7 * (48 + trace_grammar_kinds::samples_row(w)),
+        Class::Letter if trace_grammar_kinds::is_letter(w) => s + 2,
+        _ => s + 1,
     }
-    if class == 2 {
-        return 7 * (39 + trace_grammar_kinds::spec_row(w));
-    }
-    if class == 3 {
-        return 7 * (48 + trace_grammar_kinds::samples_row(w));
-    }
-    if class == 4 {
-        if trace_grammar_kinds::is_letter(w) {
-            return s + 2;
-        }
-        return s + 1;
-    }
-    s + 1
 }
 
 // whether a line may end before a place
-fn may_end(class: u8) -> bool
+#[tactic(auto, unfolding(crate::specs::Grammar::ends_class))]
+fn may_end(class: Class) -> bool
     ensures { result ≡ ends_class class }
 {
-    if class == 1 {
-        return true;
-    }
-    if class < 5 {
-        return false;
-    }
-    true
+    matches!(class, Class::Repeated | Class::Optional | Class::Over)
 }
 
 // ---- lines
@@ -800,6 +279,7 @@ fn rest(line: &[u8], from: usize, row: usize) -> Line
     let mut s = 7 * row;
     let mut p = from;
     let mut k = 1usize;
+    // Not a for: the step is a word.
     while p < line.len() {
         let w = trace_input_session::word_at(line, p);
         let kind = kind_at(s);
@@ -821,11 +301,11 @@ pub fn line_of(line: &[u8]) -> Line
     if line.len() <= at {
         return Line::Nothing;
     }
-    if line[at] == 35 {
+    if line[at] == b'#' {
         return Line::Nothing;
     }
     let row = trace_grammar_kinds::command_row(trace_input_session::word_at(line, at));
-    if COMMANDS <= row {
+    if COMMANDS.len() <= row {
         return Line::Wrong {
             word: 1,
             kind: Kind::Command,

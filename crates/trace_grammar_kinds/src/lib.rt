@@ -1,8 +1,9 @@
 // The kinds of words of the session language (docs/SESSIONS.md, Kinds of words), and which words are of which kind.
 #![tactic(auto)]
 
-ghost use Rattle.std.specs.Prelude.{◌≡◌, ◌≤◌};
-ghost use Rattle.trace_grammar_kinds.specs.Kinds.{class_of, fits, kind_of, is_aim, is_bus, is_curve, is_draw};
+ghost use Rattle.std.specs.Prelude.{◌≡◌};
+ghost use Rattle.std.specs.Option.{is_some};
+ghost use Rattle.trace_grammar_kinds.specs.Kinds.{class_of, fits, is_aim, is_bus, is_curve, is_draw};
 ghost use Rattle.trace_grammar_kinds.specs.Kinds.{is_feed, is_field, is_length, is_length_or_letter, is_of, is_part};
 ghost use Rattle.trace_grammar_kinds.specs.Kinds.{is_pick, is_slew, is_target, is_value};
 ghost use Rattle.trace_grammar_kinds.specs.Texts.{commands, letters, samples, specs};
@@ -88,122 +89,23 @@ pub enum Kind {
     Command,
 }
 
-// ---- kinds by number, in the order in which they are declared
-
-// from 22 on; End for a number that is no kind's
-fn high_kind(n: u8) -> Kind
-    requires { 22 ≤ n }
-    ensures { result ≡ kind_of n }
-{
-    if n < 23 {
-        return Kind::Spec;
-    }
-    if n < 24 {
-        return Kind::Samples;
-    }
-    if n < 25 {
-        return Kind::SourceKind;
-    }
-    if n < 26 {
-        return Kind::Scope;
-    }
-    if n < 27 {
-        return Kind::Range;
-    }
-    if n < 28 {
-        return Kind::Rate;
-    }
-    if n < 29 {
-        return Kind::Mode;
-    }
-    if n < 30 {
-        return Kind::Memory;
-    }
-    if n < 31 {
-        return Kind::Command;
-    }
-    Kind::End
-}
-
-// from 12 on
-fn middle_kind(n: u8) -> Kind
-    requires { 12 ≤ n }
-    ensures { result ≡ kind_of n }
-{
-    if n < 13 {
-        return Kind::Table;
-    }
-    if n < 14 {
-        return Kind::Program;
-    }
-    if n < 15 {
-        return Kind::Target;
-    }
-    if n < 16 {
-        return Kind::Feed;
-    }
-    if n < 17 {
-        return Kind::Fields;
-    }
-    if n < 18 {
-        return Kind::Draw;
-    }
-    if n < 19 {
-        return Kind::Length;
-    }
-    if n < 20 {
-        return Kind::Part;
-    }
-    if n < 21 {
-        return Kind::LengthOrLetter;
-    }
-    if n < 22 {
-        return Kind::Letter;
-    }
-    high_kind(n)
-}
-
-// The kind of a number.
-pub fn kind_of(n: u8) -> Kind
-    ensures { result ≡ kind_of n }
-{
-    if n < 1 {
-        return Kind::End;
-    }
-    if n < 2 {
-        return Kind::Whole;
-    }
-    if n < 3 {
-        return Kind::MaybeWhole;
-    }
-    if n < 4 {
-        return Kind::Place;
-    }
-    if n < 5 {
-        return Kind::Entry;
-    }
-    if n < 6 {
-        return Kind::Source;
-    }
-    if n < 7 {
-        return Kind::Number;
-    }
-    if n < 8 {
-        return Kind::Numbers;
-    }
-    if n < 9 {
-        return Kind::Flag;
-    }
-    if n < 10 {
-        return Kind::Key;
-    }
-    if n < 11 {
-        return Kind::Keys;
-    }
-    if n < 12 {
-        return Kind::Name;
-    }
-    middle_kind(n)
+// What comes after a word.
+#[derive(Clone, Copy)]
+pub enum Class {
+    // the next place of the row
+    Single,
+    // the same place, or the end of the line
+    Repeated,
+    // the row of a table's word
+    Spec,
+    // the row of a word for samples
+    Samples,
+    // the place after the next where the word is the kind of a generator, else the next
+    Letter,
+    // the next place; the line may end before the word
+    Optional,
+    // nothing: the line is over
+    Over,
 }
 
 // ---- words of lists
@@ -242,24 +144,21 @@ fn is_of(list: &[u8], n: usize, w: &[u8]) -> bool
 }
 
 fn is_whole(w: &[u8]) -> bool
-    ensures { result ≡ (whole_of w.now).good }
+    ensures { result ≡ is_some (whole_of w.now) }
 {
-    let n = trace_input_session::whole(w);
-    n.good
+    trace_input_session::whole(w).is_some()
 }
 
 fn is_up_to(w: &[u8], most: u64) -> bool
-    ensures { result ≡ (whole_to most w.now).good }
+    ensures { result ≡ is_some (whole_to most w.now) }
 {
-    let n = trace_input_session::whole_to(w, most);
-    n.good
+    trace_input_session::whole_to(w, most).is_some()
 }
 
 fn is_number(w: &[u8]) -> bool
-    ensures { result ≡ (float_of w.now).good }
+    ensures { result ≡ is_some (float_of w.now) }
 {
-    let x = trace_input_session::float(w);
-    x.good
+    trace_input_session::float(w).is_some()
 }
 
 // The kind of a generator.
@@ -270,183 +169,150 @@ pub fn is_letter(w: &[u8]) -> bool
 }
 
 // `LFO:BUS`
+#[tactic(auto, unfolding(crate::specs::Kinds::is_bus))]
 fn is_bus(w: &[u8]) -> bool
     ensures { result ≡ is_bus w.now }
 {
-    if is_up_to(trace_input_session::before(w, 58), 255) {
-        return is_up_to(trace_input_session::after(w, 58), 255);
-    }
-    false
+    is_up_to(trace_input_session::before(w, b':'), 255)
+        && is_up_to(trace_input_session::after(w, b':'), 255)
 }
 
 // `p:NUMBER` or `l:LFO:BUS`
+#[tactic(auto, unfolding(crate::specs::Kinds::is_target))]
 fn is_target(w: &[u8]) -> bool
     ensures { result ≡ is_target w.now }
 {
-    let head = trace_input_session::before(w, 58);
-    let rest = trace_input_session::after(w, 58);
+    let head = trace_input_session::before(w, b':');
+    let rest = trace_input_session::after(w, b':');
     if trace_input_session::is(head, b"p") {
         return is_up_to(rest, 4294967295);
     }
-    if trace_input_session::is(head, b"l") {
-        return is_bus(rest);
-    }
-    false
+    trace_input_session::is(head, b"l") && is_bus(rest)
 }
 
 // `-`, `src:SOURCE`, `amt:SLOT` or `out:SLOT`
+#[tactic(auto, unfolding(crate::specs::Kinds::is_feed))]
 fn is_feed(w: &[u8]) -> bool
     ensures { result ≡ is_feed w.now }
 {
     if trace_input_session::is(w, b"-") {
         return true;
     }
-    let head = trace_input_session::before(w, 58);
-    let rest = trace_input_session::after(w, 58);
+    let head = trace_input_session::before(w, b':');
+    let rest = trace_input_session::after(w, b':');
     if trace_input_session::is(head, b"src") {
         return is_up_to(rest, 65535);
     }
-    if is_of(b"amt out", 2, head) {
-        return is_up_to(rest, 255);
-    }
-    false
+    is_of(b"amt out", 2, head) && is_up_to(rest, 255)
 }
 
 // `-`, or the number of a source
+#[tactic(auto, unfolding(crate::specs::Kinds::is_pick))]
 fn is_pick(w: &[u8]) -> bool
     ensures { result ≡ is_pick w.now }
 {
-    if trace_input_session::is(w, b"-") {
-        return true;
-    }
-    is_up_to(w, 65535)
+    trace_input_session::is(w, b"-") || is_up_to(w, 65535)
 }
 
 // `-`, or a target
+#[tactic(auto, unfolding(crate::specs::Kinds::is_aim))]
 fn is_aim(w: &[u8]) -> bool
     ensures { result ≡ is_aim w.now }
 {
-    if trace_input_session::is(w, b"-") {
-        return true;
-    }
-    is_target(w)
+    trace_input_session::is(w, b"-") || is_target(w)
 }
 
 // `RISE:FALL`
+#[tactic(auto, unfolding(crate::specs::Kinds::is_slew))]
 fn is_slew(w: &[u8]) -> bool
     ensures { result ≡ is_slew w.now }
 {
-    if is_number(trace_input_session::before(w, 58)) {
-        return is_number(trace_input_session::after(w, 58));
-    }
-    false
+    is_number(trace_input_session::before(w, b':'))
+        && is_number(trace_input_session::after(w, b':'))
 }
 
 // `lin`, or `TABLE:RISE:FALL`
+#[tactic(auto, unfolding(crate::specs::Kinds::is_curve))]
 fn is_curve(w: &[u8]) -> bool
     ensures { result ≡ is_curve w.now }
 {
-    if trace_input_session::is(w, b"lin") {
-        return true;
-    }
-    is_slew(trace_input_session::after(w, 58))
+    trace_input_session::is(w, b"lin") || is_slew(trace_input_session::after(w, b':'))
 }
 
 // the value of field i: src aux dst amt out pol inv byp sc ac
+#[tactic(auto, unfolding(crate::specs::Kinds::is_value))]
 fn is_value(i: usize, v: &[u8]) -> bool
     ensures { result ≡ is_value i v.now }
 {
-    if i < 2 {
-        return is_pick(v);
+    match i {
+        0 | 1 => is_pick(v),
+        2 => is_aim(v),
+        3 | 4 => is_number(v),
+        5 => is_of(b"u b", 2, v),
+        6 | 7 => is_of(b"0 1", 2, v),
+        8 | 9 => is_curve(v),
+        _ => false,
     }
-    if i < 3 {
-        return is_aim(v);
-    }
-    if i < 5 {
-        return is_number(v);
-    }
-    if i < 6 {
-        return is_of(b"u b", 2, v);
-    }
-    if i < 8 {
-        return is_of(b"0 1", 2, v);
-    }
-    if i < 10 {
-        return is_curve(v);
-    }
-    false
 }
 
 // `FIELD=VALUE`
+#[tactic(auto, unfolding(crate::specs::Kinds::is_field))]
 fn is_field(w: &[u8]) -> bool
     ensures { result ≡ is_field w.now }
 {
     let i = trace_input_session::index(
         b"src aux dst amt out pol inv byp sc ac",
-        trace_input_session::before(w, 61),
+        trace_input_session::before(w, b'='),
     );
-    is_value(i, trace_input_session::after(w, 61))
+    is_value(i, trace_input_session::after(w, b'='))
 }
 
 // 16 hexadecimal digits
+#[tactic(auto, unfolding(crate::specs::Kinds::is_draw))]
 fn is_draw(w: &[u8]) -> bool
     ensures { result ≡ is_draw w.now }
 {
-    if w.len() == 16 {
-        return trace_input_session::all_hex(w);
-    }
-    false
+    w.len() == 16 && trace_input_session::all_hex(w)
 }
 
 // `all`, `need`, `need-1`, or a whole number up to 10^12
+#[tactic(auto, unfolding(crate::specs::Kinds::is_length))]
 fn is_length(w: &[u8]) -> bool
     ensures { result ≡ is_length w.now }
 {
-    if is_of(b"all need need-1", 3, w) {
-        return true;
-    }
-    is_up_to(w, 1000000000000)
+    is_of(b"all need need-1", 3, w) || is_up_to(w, 1000000000000)
 }
 
 // `end`, `end+1`, or a whole number
+#[tactic(auto, unfolding(crate::specs::Kinds::is_part))]
 fn is_part(w: &[u8]) -> bool
     ensures { result ≡ is_part w.now }
 {
-    if is_of(b"end end+1", 2, w) {
-        return true;
-    }
-    is_whole(w)
+    is_of(b"end end+1", 2, w) || is_whole(w)
 }
 
 // the kind of a generator, or a whole number
+#[tactic(auto, unfolding(crate::specs::Kinds::is_length_or_letter))]
 fn is_length_or_letter(w: &[u8]) -> bool
     ensures { result ≡ is_length_or_letter w.now }
 {
-    if is_letter(w) {
-        return true;
-    }
-    is_whole(w)
+    is_letter(w) || is_whole(w)
 }
 
 // Whether a word is of a kind.
+#[tactic(auto, unfolding(crate::specs::Kinds::fits))]
 pub fn is_fit(kind: Kind, w: &[u8]) -> bool
     ensures { result ≡ fits kind w.now }
 {
     match kind {
         Kind::End => false,
-        Kind::Whole => is_whole(w),
-        Kind::MaybeWhole => is_whole(w),
+        Kind::Whole | Kind::MaybeWhole => is_whole(w),
         Kind::Place => is_up_to(w, LAST_PLACE as u64),
         Kind::Entry => is_up_to(w, LAST_ENTRY as u64),
         Kind::Source => is_up_to(w, LAST_SOURCE as u64),
-        Kind::Number => is_number(w),
-        Kind::Numbers => is_number(w),
+        Kind::Number | Kind::Numbers => is_number(w),
         Kind::Flag => is_of(b"0 1", 2, w),
-        Kind::Key => true,
-        Kind::Keys => true,
-        Kind::Name => true,
-        Kind::Table => true,
-        Kind::Program => true,
+        Kind::Key | Kind::Keys | Kind::Name | Kind::Table | Kind::Program => true,
         Kind::Target => is_target(w),
         Kind::Feed => is_feed(w),
         Kind::Fields => is_field(w),
@@ -475,41 +341,18 @@ pub fn is_fit(kind: Kind, w: &[u8]) -> bool
     }
 }
 
-// What comes after a word of a kind, by number (specs/Kinds.antt, class_of)
-pub fn class_of(kind: Kind) -> u8
+// What comes after a word of a kind (specs/Kinds.antt, class_of).
+#[tactic(auto, unfolding(crate::specs::Kinds::class_of))]
+pub fn class_of(kind: Kind) -> Class
     ensures { result ≡ class_of kind }
 {
     match kind {
-        Kind::End => 6,
-        Kind::Whole => 0,
-        Kind::MaybeWhole => 5,
-        Kind::Place => 0,
-        Kind::Entry => 0,
-        Kind::Source => 0,
-        Kind::Number => 0,
-        Kind::Numbers => 1,
-        Kind::Flag => 0,
-        Kind::Key => 0,
-        Kind::Keys => 1,
-        Kind::Name => 0,
-        Kind::Table => 0,
-        Kind::Program => 0,
-        Kind::Target => 0,
-        Kind::Feed => 0,
-        Kind::Fields => 1,
-        Kind::Draw => 0,
-        Kind::Length => 0,
-        Kind::Part => 0,
-        Kind::LengthOrLetter => 4,
-        Kind::Letter => 0,
-        Kind::Spec => 2,
-        Kind::Samples => 3,
-        Kind::SourceKind => 0,
-        Kind::Scope => 0,
-        Kind::Range => 0,
-        Kind::Rate => 0,
-        Kind::Mode => 0,
-        Kind::Memory => 0,
-        Kind::Command => 0,
+        Kind::End => Class::Over,
+        Kind::MaybeWhole => Class::Optional,
+        Kind::Numbers | Kind::Keys | Kind::Fields => Class::Repeated,
+        Kind::LengthOrLetter => Class::Letter,
+        Kind::Spec => Class::Spec,
+        Kind::Samples => Class::Samples,
+        _ => Class::Single,
     }
 }

@@ -32,10 +32,8 @@ pub fn first() -> Reader {
 fn moved(buffer: &mut [u8], from: usize, n: usize)
     requires { from + n ≤ length buffer.old }
 {
-    let mut i = 0usize;
-    while i < n {
+    for i in 0..n {
         buffer[i] = buffer[from + i];
-        i += 1usize;
     }
 }
 
@@ -43,62 +41,45 @@ fn moved(buffer: &mut [u8], from: usize, n: usize)
 pub fn line_end(buffer: &[u8], start: usize, end: usize) -> usize
     ensures { start ≤ result }
 {
-    let mut i = start;
-    while i < end {
+    for i in start..end {
         if is_feed(buffer, i) {
             return i;
         }
-        i += 1usize;
     }
-    i
+    start.max(end)
 }
 
 // the place after this one
 pub fn after(i: usize) -> usize {
-    std::num::wrapping_add_usize(i, 1)
+    i.wrapping_add(1)
 }
 
 fn is_feed(buffer: &[u8], i: usize) -> bool {
-    if i < buffer.len() {
-        return buffer[i] == 10;
-    }
-    false
+    matches!(buffer.get(i), Some(b'\n'))
 }
 
 // whether a line feed is ahead, or the buffer is full, or nothing more comes
 fn is_ready(buffer: &[u8], r: Reader) -> bool {
-    if r.last {
-        return true;
-    }
-    if r.start == 0 && buffer.len() <= r.end {
-        return true;
-    }
-    line_end(buffer, r.start, r.end) < r.end
+    r.last || r.start == 0 && buffer.len() <= r.end || line_end(buffer, r.start, r.end) < r.end
 }
 
 // the bytes still to come at the start of the buffer
 fn lowered(buffer: &mut [u8], r: Reader) -> Reader {
-    let start = r.start;
-    let end = r.end;
-    if buffer.len() < end {
+    if buffer.len() < r.end || r.end < r.start {
         return r;
     }
-    if end < start {
-        return r;
-    }
-    moved(buffer, start, end - start);
-    let mut next = r;
-    next.start = 0;
-    next.end = end - start;
-    next
+    let end = r.end - r.start;
+    moved(buffer, r.start, end);
+    Reader { start: 0, end, ..r }
 }
 
 // nothing more comes
 fn over(r: Reader, failed: bool) -> Reader {
-    let mut next = r;
-    next.last = true;
-    next.failed = failed;
-    next
+    Reader {
+        last: true,
+        failed,
+        ..r
+    }
 }
 
 // with what one more read brings
@@ -109,33 +90,19 @@ fn read_more<R: Read>(from: &mut R, buffer: &mut [u8], r: Reader) -> Reader {
     }
     match from.read(&mut buffer[end..]) {
         Ok(0) => over(r, false),
-        Ok(n) => {
-            let mut next = r;
-            next.end = end + n;
-            next
-        }
+        Ok(n) => Reader { end: end + n, ..r },
         Err(_) => over(r, true),
     }
-}
-
-fn fewer(left: usize, ready: bool) -> usize
-    requires { 0 < left }
-    ensures { result < left }
-{
-    if ready {
-        return 0;
-    }
-    left - 1
 }
 
 // reads until a line feed is ahead, or the buffer is full, or nothing more comes: no more often than there are bytes to fill, and once more
 fn read_line<R: Read>(from: &mut R, buffer: &mut [u8], r: Reader) -> Reader {
     let mut next = r;
-    let mut left = 18446744073709551615usize;
-    while 0 < left {
-        let more = read_more(from, buffer, next);
-        next = more;
-        left = fewer(left, is_ready(buffer, next));
+    for _ in 0..usize::MAX {
+        next = read_more(from, buffer, next);
+        if is_ready(buffer, next) {
+            return next;
+        }
     }
     next
 }
@@ -151,15 +118,12 @@ fn ready<R: Read>(from: &mut R, buffer: &mut [u8], r: Reader) -> Reader {
 
 // past the line that ends at `stop`; where there is no line feed there, its rest is still to be passed over
 fn past(r: Reader, stop: usize) -> Reader {
-    let mut next = r;
-    if stop < r.end {
-        next.start = stop + 1;
-        next.inside = false;
-        return next;
+    let inside = r.end <= stop;
+    Reader {
+        start: if inside { r.end } else { stop + 1 },
+        inside,
+        ..r
     }
-    next.start = r.end;
-    next.inside = true;
-    next
 }
 
 // The bytes from `start` to before `stop`: line `number`, whole where `all` says so; none where they are the rest of a line.
@@ -174,48 +138,24 @@ pub struct Coming {
     pub reader: Reader,
 }
 
-// a line that has been answered has no bytes, and one that can't be read neither
-fn begin(none: bool, start: usize, stop: usize) -> usize {
-    if none {
-        return stop;
-    }
-    start
-}
-
-fn counted(number: u64, inside: bool) -> u64 {
-    if inside {
-        return number;
-    }
-    std::num::wrapping_add_u64(number, 1)
-}
-
-fn either(a: bool, b: bool) -> bool {
-    if a { true } else { b }
-}
-
-// whether the line that ends at `stop` can't be read to its end
-fn is_broken(r: Reader, stop: usize) -> bool {
-    if r.failed {
-        return r.end <= stop;
-    }
-    false
-}
-
+// A line that has been answered has no bytes, and one that can't be read to its end neither.
 fn ahead_of(r: Reader, stop: usize) -> Coming {
-    let start = r.start;
-    let end = r.end;
-    let inside = r.inside;
-    let broken = is_broken(r, stop);
-    let number = counted(r.number, inside);
-    let mut reader = past(r, stop);
-    reader.number = number;
+    let broken = r.failed && r.end <= stop;
+    let number = if r.inside {
+        r.number
+    } else {
+        r.number.wrapping_add(1)
+    };
     Coming {
-        start: begin(either(inside, broken), start, stop),
+        start: if r.inside || broken { stop } else { r.start },
         stop,
-        all: either(stop < end, r.last),
-        done: either(end <= start, broken),
+        all: stop < r.end || r.last,
+        done: r.end <= r.start || broken,
         number,
-        reader,
+        reader: Reader {
+            number,
+            ..past(r, stop)
+        },
     }
 }
 

@@ -2,50 +2,30 @@
 #![tactic(auto)]
 
 ghost use Rattle.std.specs.Prelude.{◌≡◌, false, [], ◌<◌, ◌≤◌, length, drop, get_or};
-ghost use Rattle.trace_input_session.specs.Words.{is_hex, all_hex, decimal_word, float_of, same_bytes, decimal_of};
+ghost use Rattle.std.specs.Option.{SomeIff};
+ghost use Rattle.trace_input_session.specs.Words.{is_hex, all_hex, float_of, same_bytes, decimal_of};
 ghost use Rattle.trace_input_session.specs.Words.{whole_of, whole_to};
 ghost use Rattle.trace_input_session.specs.Lines.{is_blank, word_from, words_of, index_of, before_of, after_of, part_of};
 ghost use Rattle.trace_input_session.specs.Lines.{Skipped, Stopped, Passed, Placed, Found};
 
-// A whole number, where the word is one.
-#[derive(Clone, Copy)]
-pub struct WholeWord {
-    pub good: bool,
-    pub value: u64,
-}
-
-// A number, where the word is one.
-#[derive(Clone, Copy)]
-pub struct FloatWord {
-    pub good: bool,
-    pub value: f32,
-}
-
 // ---- words
 
 // a blank parts words: space, tab, line feed, vertical tab, form feed, carriage return
+#[tactic(auto, unfolding(crate::specs::Lines::is_blank))]
 fn is_blank(b: u8) -> bool
     ensures { result ≡ is_blank b }
 {
-    if b == 32 {
-        return true;
-    }
-    if b < 9 {
-        return false;
-    }
-    b < 14
+    matches!(b, b' ' | b'\t'..=b'\r')
 }
 
 // the first place from `from` on that is no blank; the length where there is none
 pub fn skip(line: &[u8], from: usize) -> usize
     ensures { Skipped line.now from result }
 {
-    let mut i = from;
-    while i < line.len() {
+    for i in from..line.len() {
         if !is_blank(line[i]) {
             return i;
         }
-        i += 1usize;
     }
     line.len()
 }
@@ -54,12 +34,10 @@ pub fn skip(line: &[u8], from: usize) -> usize
 pub fn stop(line: &[u8], from: usize) -> usize
     ensures { Stopped line.now from result }
 {
-    let mut i = from;
-    while i < line.len() {
+    for i in from..line.len() {
         if is_blank(line[i]) {
             return i;
         }
-        i += 1usize;
     }
     line.len()
 }
@@ -93,25 +71,14 @@ pub fn next(line: &[u8], at: usize) -> usize
 
 // whether a word begins at a place
 fn begins(line: &[u8], i: usize) -> bool {
-    if line.len() <= i {
-        return false;
-    }
-    if is_blank(line[i]) {
-        return false;
-    }
-    if i == 0 {
-        return true;
-    }
-    is_blank(line[i - 1])
+    i < line.len() && !is_blank(line[i]) && (i == 0 || is_blank(line[i - 1]))
 }
 
 // where the last word begins that begins before `at`; 0 where there is none
 pub fn back(line: &[u8], at: usize) -> usize
     ensures { (result ≤ at) × (0 < at → result < at) }
 {
-    let mut i = at;
-    while 0 < i {
-        i -= 1usize;
+    for i in (0..at).rev() {
         if begins(line, i) {
             return i;
         }
@@ -124,10 +91,8 @@ pub fn place(line: &[u8], n: usize) -> usize
     ensures { Placed line.now n result }
 {
     let mut at = skip(line, 0);
-    let mut k = 0usize;
-    while k < n {
+    for k in 0..n {
         at = next(line, at);
-        k += 1usize;
     }
     at
 }
@@ -145,6 +110,7 @@ pub fn count(line: &[u8]) -> usize
 {
     let mut p = skip(line, 0);
     let mut n = 0usize;
+    // Not a for: the step is a word.
     while p < line.len() {
         p = next(line, p);
         n += 1usize;
@@ -158,6 +124,7 @@ pub fn index(list: &[u8], w: &[u8]) -> usize
 {
     let mut p = skip(list, 0);
     let mut k = 0usize;
+    // Not a for: the step is a word.
     while p < list.len() {
         if is(word_at(list, p), w) {
             return k;
@@ -174,14 +141,7 @@ pub fn index(list: &[u8], w: &[u8]) -> usize
 pub fn find(s: &[u8], b: u8) -> usize
     ensures { Found s.now b result }
 {
-    let mut i = 0usize;
-    while i < s.len() {
-        if s[i] == b {
-            return i;
-        }
-        i += 1usize;
-    }
-    s.len()
+    s.iter().position(|&c| c == b).unwrap_or(s.len())
 }
 
 // what stands before the first b; all where there is none
@@ -206,138 +166,67 @@ pub fn after(s: &[u8], b: u8) -> &[u8]
 pub fn is(a: &[u8], b: &[u8]) -> bool
     ensures { result ≡ same_bytes a.now b.now }
 {
-    if a.len() != b.len() {
-        return false;
-    }
-    let mut i = 0usize;
-    while i < a.len() {
-        if a[i] != b[i] {
-            return false;
-        }
-        i += 1usize;
-    }
-    true
+    a == b
 }
 
 // ---- numbers
 
-// a decimal digit's number; 10 for any other byte
-fn digit(b: u8) -> u64
-    ensures { result ≡ decimal_of b }
+// a decimal digit's number
+#[tactic(auto, unfolding(crate::specs::Words::decimal_of))]
+fn digit(b: u8) -> Option<u64>
+    ensures { SomeIff result (decimal_of b < 10) (decimal_of b) }
 {
-    if b < 48 {
-        return 10;
-    }
-    if 57 < b {
-        return 10;
-    }
-    (b - 48) as u64
-}
-
-fn no_whole() -> WholeWord
-    ensures { result ≡ record { good = false; value = 0 } }
-{
-    WholeWord {
-        good: false,
-        value: 0,
+    match b {
+        b'0'..=b'9' => Some((b - b'0') as u64),
+        _ => None,
     }
 }
 
 // a word of decimal digits that fits 64 bits
-pub fn whole(w: &[u8]) -> WholeWord
+pub fn whole(w: &[u8]) -> Option<u64>
     ensures { result ≡ whole_of w.now }
 {
-    if w.len() == 0 {
-        return no_whole();
+    if w.is_empty() {
+        return None;
     }
     let mut value = 0u64;
-    let mut i = 0usize;
-    while i < w.len() {
-        let d = digit(w[i]);
-        if 9 < d {
-            return no_whole();
-        }
-        if 1844674407370955161 < value {
-            return no_whole();
-        }
-        if 18446744073709551615 - d < value * 10 {
-            return no_whole();
-        }
-        value = value * 10 + d;
-        i += 1usize;
+    for &b in w {
+        let d = digit(b)?;
+        value = value.checked_mul(10)?.checked_add(d)?;
     }
-    WholeWord { good: true, value }
+    Some(value)
 }
 
 // the same, at most `most`
-pub fn whole_to(w: &[u8], most: u64) -> WholeWord
+pub fn whole_to(w: &[u8], most: u64) -> Option<u64>
     ensures { result ≡ whole_to most w.now }
 {
-    let n = whole(w);
-    let value = n.value;
-    if most < value {
-        return no_whole();
+    match whole(w) {
+        Some(n) if n <= most => Some(n),
+        _ => None,
     }
-    n
 }
 
+#[tactic(auto, unfolding(crate::specs::Words::is_hex))]
 fn is_hex(b: u8) -> bool
     ensures { result ≡ is_hex b }
 {
-    if b < 48 {
-        return false;
-    }
-    if b < 58 {
-        return true;
-    }
-    if b < 65 {
-        return false;
-    }
-    if b < 71 {
-        return true;
-    }
-    if b < 97 {
-        return false;
-    }
-    b < 103
+    matches!(b, b'0'..=b'9' | b'A'..=b'F' | b'a'..=b'f')
 }
 
 pub fn all_hex(w: &[u8]) -> bool
     ensures { result ≡ all_hex w.now }
 {
-    let mut i = 0usize;
-    while i < w.len() {
-        if !is_hex(w[i]) {
-            return false;
-        }
-        i += 1usize;
-    }
-    true
-}
-
-// a decimal
-fn decimal_word(w: &[u8]) -> FloatWord
-    ensures { result ≡ decimal_word w.now }
-{
-    let d = decimal::read(w);
-    FloatWord {
-        good: d.good,
-        value: d.value,
-    }
+    w.iter().all(|&b| is_hex(b))
 }
 
 // a word of 8 hexadecimal digits, or a decimal
-pub fn float(w: &[u8]) -> FloatWord
+#[tactic(auto, unfolding(crate::specs::Words::float_of))]
+pub fn float(w: &[u8]) -> Option<f32>
     ensures { result ≡ float_of w.now }
 {
-    if w.len() != 8 {
-        return decimal_word(w);
+    if w.len() == 8 && all_hex(w) {
+        return Some(hex_words::of_bits((hex_words::hex(w, 0, 8) % 0x1_0000_0000) as u32));
     }
-    if !all_hex(w) {
-        return decimal_word(w);
-    }
-    FloatWord {
-        good: true,
-        value: hex_words::of_bits((hex_words::hex(w, 0, 8) % 0x1_0000_0000) as u32),
-    }
+    decimal::read(w).ok()
 }

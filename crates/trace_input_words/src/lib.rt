@@ -2,7 +2,7 @@
 #![tactic(auto)]
 
 use config::Config;
-use state::{Aim, Feed, Kind, Pick, Polarity, Range, Rate, Scope, Target};
+use state::{Feed, Kind, Polarity, Range, Rate, Scope, Target};
 
 // ---- arguments of a line: each is of its kind (grammar)
 
@@ -22,14 +22,12 @@ pub struct ValueWord {
 
 // a word that is a whole number
 pub fn number(w: &[u8]) -> usize {
-    let n = trace_input_session::whole(w);
-    n.value as usize
+    trace_input_session::whole(w).unwrap_or(0) as usize
 }
 
 // a word that is a number
 pub fn float(w: &[u8]) -> f32 {
-    let x = trace_input_session::float(w);
-    x.value
+    trace_input_session::float(w).unwrap_or(0.0)
 }
 
 // the place in a list of word k of a line
@@ -100,13 +98,6 @@ fn kind_of(i: usize) -> Kind {
         3 => Kind::Velocity,
         4 => Kind::Key,
         5 => Kind::ReleaseVelocity,
-        _ => made_kind_of(i),
-    }
-}
-
-// kinds that the engine makes from draws and counts
-fn made_kind_of(i: usize) -> Kind {
-    match i {
         6 => Kind::Random,
         7 => Kind::Alternate { inverse: false },
         8 => Kind::Alternate { inverse: true },
@@ -117,17 +108,17 @@ fn made_kind_of(i: usize) -> Kind {
 }
 
 fn scope_of(i: usize) -> Scope {
-    if i == 0 {
-        return Scope::Voice;
+    match i {
+        0 => Scope::Voice,
+        _ => Scope::Global,
     }
-    Scope::Global
 }
 
 fn range_of(i: usize) -> Range {
-    if i == 0 {
-        return Range::Unipolar;
+    match i {
+        0 => Range::Unipolar,
+        _ => Range::Bipolar,
     }
-    Range::Bipolar
 }
 
 // a key as written: `~` is the empty one
@@ -140,17 +131,13 @@ pub fn key(w: &[u8]) -> &[u8] {
 
 // `source KEY KIND SCOPE RANGE`
 pub fn source(line: &[u8]) -> SourceWord {
-    let k = index_at(
-        b"signal audio held velocity key release random alt altinv routerandom load constant",
-        line,
-        2,
-    );
-    let s = index_at(b"v g", line, 3);
-    let r = index_at(b"u b", line, 4);
-    let kind = kind_of(k);
-    let scope = scope_of(s);
-    let range = range_of(r);
-    SourceWord { kind, scope, range }
+    let kinds =
+        b"signal audio held velocity key release random alt altinv routerandom load constant";
+    SourceWord {
+        kind: kind_of(index_at(kinds, line, 2)),
+        scope: scope_of(index_at(b"v g", line, 3)),
+        range: range_of(index_at(b"u b", line, 4)),
+    }
 }
 
 // ---- destinations
@@ -174,13 +161,9 @@ fn rate_of(i: usize) -> Rate {
 
 // `dest TARGET SCOPE RATE MIN MAX FEED`, all but the target and the feed
 pub fn dest(line: &[u8]) -> DestWord {
-    let s = index_at(b"v g", line, 2);
-    let r = index_at(b"audio control adaptive", line, 3);
-    let scope = scope_of(s);
-    let rate = rate_of(r);
     DestWord {
-        scope,
-        rate,
+        scope: scope_of(index_at(b"v g", line, 2)),
+        rate: rate_of(index_at(b"audio control adaptive", line, 3)),
         min: float_at(line, 4),
         max: float_at(line, 5),
     }
@@ -188,12 +171,12 @@ pub fn dest(line: &[u8]) -> DestWord {
 
 // `p:NUMBER` or `l:LFO:BUS`
 pub fn target(w: &[u8]) -> Target {
-    let rest = trace_input_session::after(w, 58);
-    if trace_input_session::is(trace_input_session::before(w, 58), b"p") {
+    let rest = trace_input_session::after(w, b':');
+    if trace_input_session::is(trace_input_session::before(w, b':'), b"p") {
         return Target::Param((number(rest) % 4294967296) as u32);
     }
-    let lfo = (number(trace_input_session::before(rest, 58)) % 256) as u8;
-    let bus = (number(trace_input_session::after(rest, 58)) % 256) as u8;
+    let lfo = (number(trace_input_session::before(rest, b':')) % 256) as u8;
+    let bus = (number(trace_input_session::after(rest, b':')) % 256) as u8;
     Target::LfoBus { lfo, bus }
 }
 
@@ -210,27 +193,26 @@ pub fn feed(w: &[u8]) -> Feed {
     if trace_input_session::is(w, b"-") {
         return Feed::Nothing;
     }
-    let i = trace_input_session::index(b"src amt out", trace_input_session::before(w, 58));
-    feed_of(i, number(trace_input_session::after(w, 58)))
+    let i = trace_input_session::index(b"src amt out", trace_input_session::before(w, b':'));
+    feed_of(i, number(trace_input_session::after(w, b':')))
 }
 
 // ---- slots
 
 // a source's number, or `-`
-pub fn pick(w: &[u8]) -> Pick {
+pub fn pick(w: &[u8]) -> Option<usize> {
     if trace_input_session::is(w, b"-") {
-        return Pick::Nothing;
+        return None;
     }
-    Pick::Source(number(w))
+    Some(number(w))
 }
 
 // a target, or `-`
-pub fn aim(w: &[u8]) -> Aim {
+pub fn aim(w: &[u8]) -> Option<Target> {
     if trace_input_session::is(w, b"-") {
-        return Aim::Nothing;
+        return None;
     }
-    let at = target(w);
-    Aim::At(at)
+    Some(target(w))
 }
 
 // `u` or `b`

@@ -1,49 +1,60 @@
 -- How a session ends (docs/SESSIONS.md, How a trace ends). Definitions only.
-use Rattle.std.specs.Prelude.{◌≡◌, ℕ, Bool, true, false, cond, List, ◌==◌, nat_eq, nat_lt, refl}
+use Rattle.std.specs.Prelude.{◌≡◌, ℕ, Bool, true, false, cond, List, ◌==◌, refl, Option, None, Some}
+use Rattle.refusal.specs.declared.Refusal.TheVariants as R
+use Rattle.trace_stops.specs.declared.Stop.{Stop}
+use Rattle.trace_stops.specs.declared.Stop.TheVariants.{Refused, Error, TooLarge}
+use Rattle.trace_stops.specs.declared.Fault.TheVariants.{Malformed}
+use Rattle.trace_stops.specs.declared.Limit.TheVariants.{LineBytes}
 use Rattle.trace_grammar.specs.Grammar.{line_of}
 use Rattle.trace_grammar.specs.declared.Line.{Line}
 use Rattle.trace_grammar.specs.declared.Line.TheVariants.{Nothing, Call, Missing, Wrong}
 use Rattle.trace_lines_answer.specs.declared.Hand.{Hand}
 
--- the code of a session after a line: the line's, or the one before where the line has none
-unfoldable pub after_code : ℕ → ℕ → ℕ
-after_code before code = cond (code == 0) before code
+-- what a session has come to after a line: the line's stop, or the one before where the line has none
+unfoldable pub after_stop : Option Stop → Option Stop → Option Stop
+after_stop before None = before
+after_stop before (Some s) = Some s
 
--- the digit that says how a session ended: 4 where output was lost; else by its last code: 0 none, 5 a refusal (rows 1 to
--- 15), 1 an error (16 to 109), 3 too large (110 and above)
-unfoldable pub status_of : ℕ → Bool → ℕ
-status_of code lost =
-    cond lost 4 (cond (code == 0) 0 (cond (nat_lt code 16) 5 (cond (nat_lt code 110) 1 3)))
+-- the digit that says how a session ended whose output is whole: by its last stop 0 none, 5 a refusal, 1 an error, 3 too large
+unfoldable pub ending_of : Option Stop → ℕ
+ending_of None = 0
+ending_of (Some (Refused r)) = 5
+ending_of (Some (Error f)) = 1
+ending_of (Some (TooLarge l)) = 3
 
--- the code of a cut line whose error is at word n: what is cut off may be the word's end, unless it is no command
-unfoldable pub cut_code : ℕ → ℕ
-cut_code n = cond (n == 1) 100 115
+-- the digit that says how a session ended: 4 where output was lost
+unfoldable pub status_of : Option Stop → Bool → ℕ
+status_of stop lost = cond lost 4 (ending_of stop)
 
--- the code of a line, whole where `all` says so: 0 where it is a call, blank or a comment; 100, an error; 115, it is too long
-unfoldable pub code_of : Line → Bool → ℕ
-code_of Nothing all = 0
-code_of (Call c n) all = cond all 0 115
-code_of (Missing n k) all = cond all 100 115
-code_of (Wrong n k) all = cond all 100 (cut_code n)
+-- what stops a cut line whose error is at word n: what is cut off may be the word's end, unless it is no command
+unfoldable pub cut_stop : ℕ → Stop
+cut_stop n = cond (n == 1) (Error Malformed) (TooLarge LineBytes)
 
--- a line in hand is what the grammar says of it, and has the code of its errors
+-- what stops a line, whole where `all` says so: nothing where it is a call, blank or a comment; an error; it is too long
+unfoldable pub stop_of : Line → Bool → Option Stop
+stop_of Nothing all = None
+stop_of (Call c n) all = cond all None (Some (TooLarge LineBytes))
+stop_of (Missing n k) all = cond all (Some (Error Malformed)) (Some (TooLarge LineBytes))
+stop_of (Wrong n k) all = cond all (Some (Error Malformed)) (Some (cut_stop n))
+
+-- a line in hand is what the grammar says of it, and has the stop of its errors
 pub record Begun (l : List ℕ) (all : Bool) (h : Hand) : Type 0 where
   pub said : h.said ≡ line_of l
-  pub stopped : nat_eq (code_of (line_of l) all) 0 ≡ false → h.code ≡ code_of (line_of l) all
+  pub stopped : (s : Stop) → stop_of (line_of l) all ≡ Some s → h.stop ≡ Some s
 
 -- a refusal, then a line that is accepted: 5; a word that is no command: 1; a line that is too long: 3
-example-refused : status_of (after_code (after_code 0 13) 0) false ≡ 5
-unfolding status_of after_code
+example-refused : status_of (after_stop (after_stop None (Some (Refused R.Range))) None) false ≡ 5
+unfolding status_of ending_of after_stop
 example-refused = refl
 
-example-unknown : status_of 100 false ≡ 1
-unfolding status_of
+example-unknown : status_of (Some (Error Malformed)) false ≡ 1
+unfolding status_of ending_of
 example-unknown = refl
 
-example-large : status_of 115 false ≡ 3
-unfolding status_of
+example-large : status_of (Some (TooLarge LineBytes)) false ≡ 3
+unfolding status_of ending_of
 example-large = refl
 
-example-lost : status_of 100 true ≡ 4
+example-lost : status_of (Some (Error Malformed)) true ≡ 4
 unfolding status_of
 example-lost = refl

@@ -105,11 +105,6 @@ fn put_memory(stdout: Stdout, out: &mut [u8], at: usize) -> usize {
     )
 }
 
-// whether no word of a line belongs there any more
-fn is_over(kind: Kind) -> bool {
-    if let Kind::End = kind { true } else { false }
-}
-
 // word n of a line, between quotes
 fn put_word(stdout: Stdout, n: usize, line: &[u8], out: &mut [u8], at: usize) -> usize {
     if n == 0 {
@@ -134,7 +129,7 @@ fn put_wrong(
     let p = trace_output_show::whole_after(stdout, out, at, b"word ", n as u64);
     let q = trace_output_show::put(stdout, out, p, b", ");
     let r = put_word(stdout, n, line, out, q);
-    if is_over(kind) {
+    if matches!(kind, Kind::End) {
         return trace_output_show::put(stdout, out, r, b", is one too many\n");
     }
     let t = trace_output_show::put(stdout, out, r, b", is no ");

@@ -2,27 +2,17 @@
 #![tactic(auto)]
 
 ghost use Rattle.std.specs.Prelude.{◌≡◌, if◌then◌else◌};
-ghost use Rattle.trace_lines_answer.specs.Endings.{after_code, Begun, code_of, cut_code, status_of};
+ghost use Rattle.trace_lines_answer.specs.Endings.{after_stop, Begun, stop_of, cut_stop, status_of};
 
 mod absent;
 mod faults;
 
 use absent::Absent;
 use std::io::Stdout;
-use trace_grammar::{Line, Registry};
-use trace_setup_preset::{LONG_TABLES, MANY_TABLES, NO_ENTRY, NONE};
-use trace_setup_roster::MANY_KEYS;
+use trace_grammar::Line;
+use trace_setup_preset::Answer;
+use trace_stops::{Fault, Limit, Stop};
 use trace_store_book::PRINT;
-use trace_store_titles::MANY_PROGRAMS;
-
-// A line that is longer than the buffer.
-const LONG_LINE: u8 = 115;
-
-// A word that does not belong where it stands, or one that is missing.
-const MALFORMED: u8 = 100;
-
-// The input can't be read to its end.
-const UNREAD: u8 = 102;
 
 // ---- what is printed
 
@@ -66,75 +56,47 @@ fn numbered(stdout: Stdout, name: &[u8], n: usize, out: &mut [u8], at: usize) ->
     trace_output_show::put(stdout, out, p, b"\n")
 }
 
-fn found(stdout: Stdout, n: usize, out: &mut [u8], at: usize) -> usize {
-    if n == NONE {
-        return trace_output_show::put(stdout, out, at, b"FIND none\n");
-    }
-    numbered(stdout, b"FIND ", n, out, at)
-}
-
-fn configured(stdout: Stdout, a: usize, b: usize, out: &mut [u8], at: usize) -> usize {
-    let p = trace_output_show::whole_after(stdout, out, at, b"CONFIG stride ", a as u64);
-    numbered(stdout, b" chunks ", b, out, p)
-}
-
-// what a line about registries prints
-fn registered(stdout: Stdout, c: Registry, a: usize, b: usize, out: &mut [u8], at: usize) -> usize {
-    match c {
-        Registry::Config => configured(stdout, a, b, out, at),
-        Registry::Source => numbered(stdout, b"SOURCE ", a, out, at),
-        Registry::Dest => numbered(stdout, b"DEST ", a, out, at),
-        Registry::Newreg => at,
-        Registry::Find => found(stdout, a, out, at),
+// what a line about the configuration and the registries prints
+fn registered(stdout: Stdout, answer: Answer, out: &mut [u8], at: usize) -> usize {
+    match answer {
+        Answer::Config { stride, chunks } => {
+            let p = trace_output_show::whole_after(
+                stdout,
+                out,
+                at,
+                b"CONFIG stride ",
+                stride as u64,
+            );
+            numbered(stdout, b" chunks ", chunks, out, p)
+        }
+        Answer::Source(id) => numbered(stdout, b"SOURCE ", id, out, at),
+        Answer::Dest(id) => numbered(stdout, b"DEST ", id, out, at),
+        Answer::Cleared => at,
+        Answer::Found(None) => trace_output_show::put(stdout, out, at, b"FIND none\n"),
+        Answer::Found(Some(id)) => numbered(stdout, b"FIND ", id, out, at),
     }
 }
 
-fn large(stdout: Stdout, code: u8, out: &mut [u8], at: usize) -> usize {
-    match code {
-        MANY_TABLES => trace_output_show::put(
-            stdout,
-            out,
-            at,
-            b"there are 128 tables, with names of at most 63 bytes\n",
-        ),
-        LONG_TABLES => trace_output_show::put(
-            stdout,
-            out,
-            at,
-            b"there are 60,000 numbers for named tables\n",
-        ),
-        MANY_PROGRAMS => trace_output_show::put(
-            stdout,
-            out,
-            at,
-            b"there are 9 programs, with names of at most 63 bytes\n",
-        ),
-        LONG_LINE => trace_output_show::put(
-            stdout,
-            out,
-            at,
-            b"there are 65,536 bytes for a line\n",
-        ),
-        MANY_KEYS => trace_output_show::put(
-            stdout,
-            out,
-            at,
-            b"there are 256 audio keys, of 8,192 bytes in all\n",
-        ),
-        _ => trace_output_show::put(
-            stdout,
-            out,
-            at,
-            b"there are 125,000 numbers for values, 666,000 for audio rows, 750,976 for tables and samples\n",
-        ),
+// what there is of a thing that a session needs more of
+fn room(limit: Limit) -> &'static [u8] {
+    match limit {
+        Limit::Tables => b"there are 128 tables, with names of at most 63 bytes\n",
+        Limit::TableNumbers => b"there are 60,000 numbers for named tables\n",
+        Limit::Programs => b"there are 9 programs, with names of at most 63 bytes\n",
+        Limit::Numbers => {
+            b"there are 125,000 numbers for values, 666,000 for audio rows, 750,976 for tables and samples\n"
+        }
+        Limit::LineBytes => b"there are 65,536 bytes for a line\n",
+        Limit::Keys => b"there are 256 audio keys, of 8,192 bytes in all\n",
     }
 }
 
-fn error(stdout: Stdout, code: u8, out: &mut [u8], at: usize) -> usize {
-    if code == NO_ENTRY {
-        return trace_output_show::put(stdout, out, at, b"the table has no such entry\n");
+// what is said of an error that is no word of the line
+fn error(fault: Fault) -> &'static [u8] {
+    match fault {
+        Fault::NoEntry => b"the table has no such entry\n",
+        _ => b"the input can't be read\n",
     }
-    trace_output_show::put(stdout, out, at, b"the input can't be read\n")
 }
 
 // what stands before the words by which the session ends at a line
@@ -144,137 +106,119 @@ fn at_line(stdout: Stdout, name: &[u8], number: u64, out: &mut [u8], at: usize) 
 }
 
 // The number by which a line was refused, or the words by which the session ends.
-pub fn coded(stdout: Stdout, code: u8, number: u64, out: &mut [u8], at: usize) -> usize {
-    if code < 16 {
-        return numbered(stdout, b"REFUSED ", code as usize, out, at);
+pub fn stopped(stdout: Stdout, stop: Stop, number: u64, out: &mut [u8], at: usize) -> usize {
+    match stop {
+        Stop::Refused(row) => numbered(stdout, b"REFUSED ", row.number() as usize, out, at),
+        Stop::Error(fault) => {
+            let p = at_line(stdout, b"ERROR line ", number, out, at);
+            trace_output_show::put(stdout, out, p, error(fault))
+        }
+        Stop::TooLarge(limit) => {
+            let p = at_line(stdout, b"TOO LARGE line ", number, out, at);
+            trace_output_show::put(stdout, out, p, room(limit))
+        }
     }
-    if code < MANY_TABLES {
-        let p = at_line(stdout, b"ERROR line ", number, out, at);
-        return error(stdout, code, out, p);
-    }
-    let p = at_line(stdout, b"TOO LARGE line ", number, out, at);
-    large(stdout, code, out, p)
 }
 
 // ---- how a session ends
 
-// Whether a session ends by a code.
-pub fn ends(code: u8) -> bool {
-    15 < code
+// Whether a session ends so: not by a refusal.
+pub fn ends(stop: Option<Stop>) -> bool {
+    matches!(stop, Some(Stop::Error(_) | Stop::TooLarge(_)))
 }
 
-// The code of a session after a line: the last one that is not 0.
-pub fn after(before: u8, code: u8) -> u8
-    ensures { result ≡ after_code before code }
+// What a session has come to after a line: the line's stop, or the one before where the line has none.
+#[tactic(auto, unfolding(crate::specs::Endings::after_stop))]
+pub fn after(before: Option<Stop>, stop: Option<Stop>) -> Option<Stop>
+    ensures { result ≡ after_stop before stop }
 {
-    if code == 0 {
-        return before;
+    match stop {
+        None => before,
+        Some(_) => stop,
     }
-    code
 }
 
-// The digit that says how a session ended whose code this is: 0, all was accepted; 1, an error; 3, too large; 4, output was
-// lost; 5, some call was refused.
-pub fn status(code: u8, lost: bool) -> u8
-    ensures { result ≡ status_of code lost }
+// The digit that says how a session ended that came to this: 0, all was accepted; 1, an error; 3, too large; 4, output
+// was lost; 5, some call was refused.
+#[tactic(auto, unfolding(crate::specs::Endings::status_of, crate::specs::Endings::ending_of))]
+pub fn status(stop: Option<Stop>, lost: bool) -> u8
+    ensures { result ≡ status_of stop lost }
 {
     if lost {
         return 4;
     }
-    if code == 0 {
-        return 0;
+    match stop {
+        None => 0,
+        Some(Stop::Refused(_)) => 5,
+        Some(Stop::Error(_)) => 1,
+        Some(Stop::TooLarge(_)) => 3,
     }
-    if code < 16 {
-        return 5;
-    }
-    if code < MANY_TABLES {
-        return 1;
-    }
-    3
 }
 
-// The code of a session whose input can't be read to its end where `failed` says so.
-pub fn unread(code: u8, failed: bool) -> u8 {
-    if ends(code) {
-        return 0;
+// What stops a session that came to this and whose input can't be read to its end, where `failed` says so.
+pub fn unread(stop: Option<Stop>, failed: bool) -> Option<Stop> {
+    if failed && !ends(stop) {
+        return Some(Stop::Error(Fault::Unread));
     }
-    if failed {
-        return UNREAD;
-    }
-    0
+    None
 }
 
-// What a line that came to a code prints; nothing where that is 0
-pub fn told(stdout: Stdout, code: u8, number: u64, out: &mut [u8], at: usize) -> usize {
-    if code == 0 {
-        return at;
+// What a line that came to this prints; nothing where nothing stops it
+pub fn told(stdout: Stdout, stop: Option<Stop>, number: u64, out: &mut [u8], at: usize) -> usize {
+    match stop {
+        None => at,
+        Some(s) => stopped(stdout, s, number, out, at),
     }
-    coded(stdout, code, number, out, at)
 }
 
 // ---- a line in hand
 
-// A line in hand: its number, and what it is; `at` bytes of output wait. `code`: by which it ends the session before its call is
-// made; 0 where it does not.
+// A line in hand: its number, and what it is; `at` bytes of output wait. `stop`: by which it ends the session before its
+// call is made, where it does.
 #[derive(Clone, Copy)]
 pub struct Hand {
     pub at: usize,
     pub number: u64,
-    pub code: u8,
+    pub stop: Option<Stop>,
     pub said: Line,
 }
 
 // What a line about the configuration and the registries prints.
 pub fn put_changed(
     h: Hand,
-    c: Registry,
-    code: u8,
-    a: usize,
-    b: usize,
+    answer: Answer,
     book: &[usize],
     stdout: Stdout,
     out: &mut [u8],
 ) -> usize {
-    if code != 0 {
-        return coded(stdout, code, h.number, out, h.at);
-    }
     if is_quiet(book) {
         return h.at;
     }
-    registered(stdout, c, a, b, out, h.at)
+    registered(stdout, answer, out, h.at)
 }
 
-// the code of a cut line whose error is at word n
-fn cut(n: usize) -> u8
-    ensures { result ≡ cut_code n }
+const MALFORMED: Stop = Stop::Error(Fault::Malformed);
+
+const LONG_LINE: Stop = Stop::TooLarge(Limit::LineBytes);
+
+// what stops a cut line whose error is at word n
+#[tactic(auto, unfolding(crate::specs::Endings::cut_stop))]
+fn cut(n: usize) -> Stop
+    ensures { result ≡ cut_stop n }
 {
-    if n == 1 {
-        return MALFORMED;
-    }
-    LONG_LINE
+    if n == 1 { MALFORMED } else { LONG_LINE }
 }
 
-fn whole_or(all: bool, code: u8, other: u8) -> u8
-    ensures { result ≡ (if all then code else other) }
-{
-    if all {
-        return code;
-    }
-    other
-}
-
-// The code of a line, whole where `all` says so: 0 where it is a call, blank or a comment.
-fn code_of(said: Line, all: bool) -> u8
-    ensures { result ≡ code_of said all }
+// what stops a line, whole where `all` says so; nothing where it is a call, blank or a comment
+#[tactic(auto, unfolding(crate::specs::Endings::stop_of))]
+fn stop_of(said: Line, all: bool) -> Option<Stop>
+    ensures { result ≡ stop_of said all }
 {
     match said {
-        Line::Nothing => 0,
-        Line::Call {
-            command: _,
-            words: _,
-        } => whole_or(all, 0, LONG_LINE),
-        Line::Missing { words: _, kind: _ } => whole_or(all, MALFORMED, LONG_LINE),
-        Line::Wrong { word, kind: _ } => whole_or(all, MALFORMED, cut(word)),
+        Line::Nothing => None,
+        Line::Call { .. } => if all { None } else { Some(LONG_LINE) },
+        Line::Missing { .. } => Some(if all { MALFORMED } else { LONG_LINE }),
+        Line::Wrong { word, .. } => Some(if all { MALFORMED } else { cut(word) }),
     }
 }
 
@@ -282,62 +226,63 @@ fn code_of(said: Line, all: bool) -> u8
 fn has_head(said: Line) -> bool {
     match said {
         Line::Nothing => false,
-        Line::Call {
-            command: _,
-            words: _,
-        } => true,
-        Line::Missing { words: _, kind: _ } => true,
-        Line::Wrong { word, kind: _ } => word != 1,
+        Line::Call { .. } | Line::Missing { .. } => true,
+        Line::Wrong { word, .. } => word != 1,
     }
 }
 
 // the words by which a line ends the session
-fn stopped(
+fn ended(
     stdout: Stdout,
-    code: u8,
+    stop: Stop,
     said: Line,
     number: u64,
     line: &[u8],
     out: &mut [u8],
     at: usize,
 ) -> usize {
-    if code == LONG_LINE {
-        return coded(stdout, code, number, out, at);
+    if let Stop::TooLarge(_) = stop {
+        return stopped(stdout, stop, number, out, at);
     }
     let p = at_line(stdout, b"ERROR line ", number, out, at);
     faults::put(stdout, said, line, out, p)
 }
 
-// what a line without errors names that is not there
-fn missed(code: u8, said: Line, line: &[u8], book: &[usize]) -> Absent {
-    if code != 0 {
-        return absent::nothing();
+// what a line that nothing stops so far names that is not there
+fn missed(stop: Option<Stop>, said: Line, line: &[u8], book: &[usize]) -> Result<(), Absent> {
+    match said {
+        Line::Call { command, .. } if stop.is_none() => absent::of(command, line, book),
+        _ => Ok(()),
     }
-    let Line::Call { command, words: _ } = said else {
-        return absent::nothing();
-    };
-    absent::of(command, line, book)
 }
 
-// what is said where a line ends the session: of its code, or of what is not there
+// what is said where a line ends the session: of its words, or of what is not there
 fn put_stop(
     stdout: Stdout,
-    code: u8,
-    a: Absent,
+    stop: Option<Stop>,
+    there: Result<(), Absent>,
     said: Line,
     number: u64,
     line: &[u8],
     out: &mut [u8],
     at: usize,
 ) -> usize {
-    if code != 0 {
-        return stopped(stdout, code, said, number, line, out, at);
+    if let Some(s) = stop {
+        return ended(stdout, s, said, number, line, out, at);
     }
-    if a.code == 0 {
+    let Err(a) = there else {
         return at;
-    }
+    };
     let p = at_line(stdout, b"ERROR line ", number, out, at);
     absent::put(stdout, a, line, out, p)
+}
+
+// what stops a line that names something that is not there
+fn absent_stop(there: Result<(), Absent>) -> Option<Stop> {
+    match there {
+        Ok(()) => None,
+        Err(_) => Some(Stop::Error(Fault::Absent)),
+    }
 }
 
 // The line in hand, whole where `all` says so, once what stands above its answers is printed, and what ends the session
@@ -356,14 +301,14 @@ pub fn begun(
     let said = trace_grammar::line_of(line);
     let w = trace_input_session::word(line, 0);
     let p = headed(stdout, said, number, w, book, out, at);
-    let code = code_of(said, all);
-    let a = missed(code, said, line, book);
-    let q = put_stop(stdout, code, a, said, number, line, out, p);
-    let ended = after(a.code, code);
+    let words = stop_of(said, all);
+    let there = missed(words, said, line, book);
+    let q = put_stop(stdout, words, there, said, number, line, out, p);
+    let stop = after(absent_stop(there), words);
     Hand {
         at: q,
         number,
-        code: ended,
+        stop,
         said,
     }
 }

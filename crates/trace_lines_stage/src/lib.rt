@@ -8,14 +8,16 @@ use std::io::Stdout;
 use trace_grammar::{Editing, Lending, Making, Registry};
 use trace_lines_answer::Hand;
 use trace_programs::Whole;
-use trace_setup_preset::{Changed, Preset};
+use trace_setup_preset::Preset;
+use trace_stops::Stop;
 use trace_store_book::DESTS;
 
-// What a session has said so far, but for the memories and the programs. `at` bytes of output wait; `code`: of the last line that was refused, or that ended the session.
+// What a session has said so far, but for the memories and the programs. `at` bytes of output wait; `stop`: of the last
+// line that was refused, or that ended the session, where there is one.
 #[derive(Clone, Copy)]
 pub struct State {
     pub at: usize,
-    pub code: u8,
+    pub stop: Option<Stop>,
     pub engine: Engine,
     pub signals: Signals,
     pub preset: Preset,
@@ -31,12 +33,18 @@ pub struct After {
 
 // ---- lines about what a program is compiled from
 
-fn with_changed(s: State, r: Changed, at: usize) -> State {
-    let preset = r.preset;
+// a line that is not accepted, of whose answers `at` bytes wait
+pub fn stopped(
+    s: State,
+    stop: Stop,
+    number: u64,
+    stdout: Stdout,
+    out: &mut [u8],
+    at: usize,
+) -> State {
     let mut next = s;
-    next.preset = preset;
-    next.at = at;
-    next.code = trace_lines_answer::after(s.code, r.code);
+    next.at = trace_lines_answer::stopped(stdout, stop, number, out, at);
+    next.stop = Some(stop);
     next
 }
 
@@ -51,11 +59,17 @@ pub fn on_registry(
     book: &mut [usize],
 ) -> State {
     let before = s.preset;
-    let r = trace_setup_preset::registry_line(before, c, line);
-    let preset = r.preset;
-    trace_store_book::set(book, DESTS, trace_setup_preset::dests(preset));
-    let at = trace_lines_answer::put_changed(h, c, r.code, r.a, r.b, book, stdout, out);
-    with_changed(s, r, at)
+    match trace_setup_preset::registry_line(before, c, line) {
+        Err(row) => stopped(s, Stop::Refused(row), h.number, stdout, out, h.at),
+        Ok(r) => {
+            let preset = r.preset;
+            trace_store_book::set(book, DESTS, trace_setup_preset::dests(preset));
+            let mut next = s;
+            next.preset = preset;
+            next.at = trace_lines_answer::put_changed(h, r.answer, book, stdout, out);
+            next
+        }
+    }
 }
 
 // Lines of n words about the matrix and its tables
@@ -71,10 +85,18 @@ pub fn on_matrix(
     desk: &mut [f32],
     audio: &mut [f32],
 ) -> State {
-    let before = s.preset;
-    let r = trace_setup_preset::matrix_line(before, c, line, n, book, audio, desk);
-    let at = trace_lines_answer::told(stdout, r.code, h.number, out, h.at);
-    with_changed(s, r, at)
+    let mut preset = s.preset;
+    let m = preset.matrix;
+    match trace_setup_preset::matrix_line(m, c, line, n, book, audio, desk) {
+        Err(stop) => stopped(s, stop, h.number, stdout, out, h.at),
+        Ok(matrix) => {
+            preset.matrix = matrix;
+            let mut next = s;
+            next.preset = preset;
+            next.at = h.at;
+            next
+        }
+    }
 }
 
 fn with_sources(
@@ -106,31 +128,15 @@ pub fn on_standard(
     out: &mut [u8],
     book: &[usize],
 ) -> State {
-    let made = trace_setup_roster::made(line);
-    let code = made.code;
-    if code != 0 {
-        let mut next = s;
-        next.at = trace_lines_answer::coded(stdout, code, h.number, out, h.at);
-        next.code = trace_lines_answer::after(s.code, code);
-        return next;
+    match trace_setup_roster::made(line) {
+        Err(stop) => stopped(s, stop, h.number, stdout, out, h.at),
+        Ok(sources) => with_sources(s, sources, h, book, stdout, out),
     }
-    let sources = made.sources;
-    with_sources(s, sources, h, book, stdout, out)
 }
 
 // ---- lines about programs and the engine as a whole
 
-fn put_whole(
-    r: Whole,
-    h: Hand,
-    c: Making,
-    book: &[usize],
-    stdout: Stdout,
-    out: &mut [u8],
-) -> usize {
-    if r.code != 0 {
-        return trace_lines_answer::coded(stdout, r.code, h.number, out, r.at);
-    }
+fn put_whole(r: Whole, c: Making, book: &[usize], stdout: Stdout, out: &mut [u8]) -> usize {
     if trace_lines_answer::is_quiet(book) {
         return r.at;
     }
@@ -140,7 +146,6 @@ fn put_whole(
 fn with_whole(
     s: State,
     r: Whole,
-    h: Hand,
     c: Making,
     book: &[usize],
     stdout: Stdout,
@@ -152,8 +157,7 @@ fn with_whole(
     let mut state = s;
     state.engine = engine;
     state.signals = signals;
-    state.at = put_whole(r, h, c, book, stdout, out);
-    state.code = trace_lines_answer::after(s.code, r.code);
+    state.at = put_whole(r, c, book, stdout, out);
     After {
         state,
         i: r.i,
@@ -166,7 +170,6 @@ fn whole_of(s: State, p: Program, i: usize, at: usize) -> Whole {
     let signals = s.signals;
     Whole {
         at,
-        code: 0,
         i,
         engine,
         signals,
@@ -191,8 +194,14 @@ pub fn on_whole(
 ) -> After {
     let preset = s.preset;
     let t = whole_of(s, p, i, h.at);
-    let r = trace_programs::whole_line(t, preset, c, i, book, desk, values, audio, pool);
-    with_whole(s, r, h, c, book, stdout, out)
+    match trace_programs::whole_line(t, preset, c, i, book, desk, values, audio, pool) {
+        Ok(r) => with_whole(s, r, c, book, stdout, out),
+        Err(stop) => After {
+            state: stopped(s, stop, h.number, stdout, out, h.at),
+            i,
+            program: p,
+        },
+    }
 }
 
 // ---- lines about what calls are lent
@@ -210,11 +219,13 @@ pub fn on_lending(
     pool: &mut [f32],
 ) -> State {
     let before = s.signals;
-    let b = trace_setup_lending::lending_line(before, c, line, n, book, pool);
-    let signals = b.signals;
-    let mut next = s;
-    next.signals = signals;
-    next.at = trace_lines_answer::told(stdout, b.code, h.number, out, h.at);
-    next.code = trace_lines_answer::after(s.code, b.code);
-    next
+    match trace_setup_lending::lending_line(before, c, line, n, book, pool) {
+        Err(stop) => stopped(s, stop, h.number, stdout, out, h.at),
+        Ok(signals) => {
+            let mut next = s;
+            next.signals = signals;
+            next.at = h.at;
+            next
+        }
+    }
 }

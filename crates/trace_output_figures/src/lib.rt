@@ -6,31 +6,24 @@ use std::io::Stdout;
 // ---- places; no product or sum of a program's comes near 2^64
 
 pub fn product(a: usize, b: usize) -> usize {
-    draw::wrapping_mul(a as u64, b as u64) as usize
+    a.wrapping_mul(b)
 }
 
 pub fn sum(a: usize, b: usize) -> usize {
-    std::num::wrapping_add_u64(a as u64, b as u64) as usize
+    a.wrapping_add(b)
 }
 
 pub fn lesser(a: usize, b: usize) -> usize {
-    if a < b {
-        return a;
-    }
-    b
+    a.min(b)
 }
 
 // the n numbers from a on, as far as the memory goes
 pub fn part(mem: &[f32], a: usize, n: usize) -> &[f32] {
-    let len = mem.len();
-    if len <= a {
-        return &mem[0..0];
+    if mem.len() <= a {
+        return &mem[..0];
     }
-    if len - a <= n {
-        return &mem[a..len];
-    }
-    let e = a + n;
-    &mem[a..e]
+    let rest = &mem[a..];
+    &rest[..n.min(rest.len())]
 }
 
 // row k of rows of that width
@@ -42,27 +35,20 @@ pub fn row_of(mem: &[f32], k: usize, width: usize) -> &[f32] {
 
 // either zero is 0
 fn plain_zero(x: f32) -> f32 {
-    if x == 0.0 {
-        return 0.0;
-    }
-    x
+    if x == 0.0 { 0.0 } else { x }
 }
 
 // a blank and a number's bits
 pub fn number(stdout: Stdout, x: f32, canon: bool, out: &mut [u8], at: usize) -> usize {
-    if canon {
-        return trace_output_show::float_after(stdout, out, at, b" ", plain_zero(x));
-    }
-    trace_output_show::float_after(stdout, out, at, b" ", x)
+    let y = if canon { plain_zero(x) } else { x };
+    trace_output_show::float_after(stdout, out, at, b" ", y)
 }
 
 // the numbers, each after a blank, and the line's end
 pub fn line(stdout: Stdout, xs: &[f32], canon: bool, out: &mut [u8], at: usize) -> usize {
     let mut p = at;
-    let mut i = 0usize;
-    while i < xs.len() {
-        p = number(stdout, xs[i], canon, out, p);
-        i += 1usize;
+    for &x in xs {
+        p = number(stdout, x, canon, out, p);
     }
     trace_output_show::put(stdout, out, p, b"\n")
 }
@@ -70,61 +56,27 @@ pub fn line(stdout: Stdout, xs: &[f32], canon: bool, out: &mut [u8], at: usize) 
 // ---- hashes: FNV-1a of 64 bits
 
 // the hash after a byte
-fn after_byte(h: u64, b: u64) -> u64 {
-    draw::wrapping_mul(h ^ b, 1099511628211)
+fn after_byte(h: u64, b: u8) -> u64 {
+    (h ^ u64::from(b)).wrapping_mul(1099511628211)
 }
 
 // the hash after a number's bits, least significant byte first
 fn after(h: u64, x: f32) -> u64 {
-    let n = hex_words::bits_of(plain_zero(x)) as u64;
-    let a = after_byte(h, n % 256);
-    let b = after_byte(a, n / 256 % 256);
-    let c = after_byte(b, n / 65536 % 256);
-    after_byte(c, n / 16777216 % 256)
+    let bytes = hex_words::bits_of(plain_zero(x)).to_le_bytes();
+    bytes.iter().fold(h, |h, &b| after_byte(h, b))
 }
 
 // the hash of numbers
 fn hash(xs: &[f32]) -> u64 {
-    let mut h = 14695981039346656037u64;
-    let mut i = 0usize;
-    while i < xs.len() {
-        h = after(h, xs[i]);
-        i += 1usize;
-    }
-    h
-}
-
-// the digit of the lowest four bits, in upper case
-fn glyph(n: u64) -> u8 {
-    let d = n % 16;
-    if d < 10 {
-        return 48 + d as u8;
-    }
-    55 + d as u8
+    xs.iter().fold(14695981039346656037, |h, &x| after(h, x))
 }
 
 // a blank and sixteen hexadecimal digits
 pub fn word(stdout: Stdout, n: u64, out: &mut [u8], at: usize) -> usize {
-    let d = [
-        32u8,
-        glyph(n / 1152921504606846976),
-        glyph(n / 72057594037927936),
-        glyph(n / 4503599627370496),
-        glyph(n / 281474976710656),
-        glyph(n / 17592186044416),
-        glyph(n / 1099511627776),
-        glyph(n / 68719476736),
-        glyph(n / 4294967296),
-        glyph(n / 268435456),
-        glyph(n / 16777216),
-        glyph(n / 1048576),
-        glyph(n / 65536),
-        glyph(n / 4096),
-        glyph(n / 256),
-        glyph(n / 16),
-        glyph(n),
-    ];
-    trace_output_show::put(stdout, out, at, &d)
+    let [a, b, c, d, e, f, g, h] = trace_output_show::digits((n >> 32) as u32);
+    let [i, j, k, l, m, o, p, q] = trace_output_show::digits((n & 0xffff_ffff) as u32);
+    let text = [b' ', a, b, c, d, e, f, g, h, i, j, k, l, m, o, p, q];
+    trace_output_show::put(stdout, out, at, &text)
 }
 
 // a blank and the hash of numbers

@@ -14,25 +14,11 @@ fn words(rows: &[u8], row: u8) -> &[u8]
     trace_input_session::word(rows, row as usize)
 }
 
-// byte i as text, a blank for _
-fn byte(stdout: Stdout, s: &[u8], i: usize, out: &mut [u8], at: usize) -> usize {
-    if s.len() <= i {
-        return at;
-    }
-    if s[i] == 95 {
-        return trace_output_show::put(stdout, out, at, b" ");
-    }
-    let b = [s[i]];
-    trace_output_show::put(stdout, out, at, &b)
-}
-
-// the first n bytes
-fn spaced(stdout: Stdout, s: &[u8], n: usize, out: &mut [u8], at: usize) -> usize {
+// a word as text, a blank for _
+fn spaced(stdout: Stdout, w: &[u8], out: &mut [u8], at: usize) -> usize {
     let mut p = at;
-    let mut i = 0usize;
-    while i < n {
-        p = byte(stdout, s, i, out, p);
-        i += 1usize;
+    for &b in w {
+        p = trace_output_show::put(stdout, out, p, &[if b == b'_' { b' ' } else { b }]);
     }
     p
 }
@@ -58,5 +44,5 @@ a_memory_that_is_too_short,_or_a_signal's_part_outside_it
 a_table_that_is_not_513_long,_or_a_key_above_32_bytes",
         row,
     );
-    spaced(stdout, w, w.len(), out, at)
+    spaced(stdout, w, out, at)
 }

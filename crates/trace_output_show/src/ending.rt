@@ -26,11 +26,8 @@ pub fn status(rt: HostRuntime, digit: u8) {
     if !is_writable(rt) {
         return;
     }
-    let text = [48 + digit % 10, 10];
-    match opened(rt) {
-        Ok(mut file) => {
-            streams::write_all(&mut file, &text);
-        }
-        Err(_) => {}
+    let text = [b'0' + digit % 10, b'\n'];
+    if let Ok(mut file) = opened(rt) {
+        streams::write_all(&mut file, &text);
     }
 }

@@ -12,17 +12,14 @@ mod ending;
 pub use ending::status;
 use std::io::Stdout;
 
-// How many bytes at the end of a buffer are no room for text.
+// How many bytes at the end of a buffer are no room for text: the count and the mark stand in the lent memory (no heap).
 const KEPT: usize = 16;
 
 // how many bytes of text a buffer has room for
 fn room(out: &[u8]) -> usize
     ensures { result ≤ length out.now }
 {
-    if out.len() < KEPT {
-        return 0;
-    }
-    out.len() - KEPT
+    out.len().saturating_sub(KEPT)
 }
 
 // ---- lines written
@@ -38,49 +35,28 @@ fn feeds(s: &[u8]) -> u64
     ensures { result ≡ feeds_of s.now }
 {
     let mut n = 0u64;
-    let mut i = 0usize;
-    while i < s.len() {
-        n += one_if(s[i] == 10);
-        i += 1usize;
+    for &b in s {
+        n += one_if(b == b'\n');
     }
     n
-}
-
-fn low(n: u64) -> u8 {
-    (n % 256) as u8
-}
-
-fn wide(b: u8) -> u64
-    ensures { result < 256 }
-{
-    b as u64
 }
 
 // the eight bytes from `from` on, the lowest first, are n more
 fn add(out: &mut [u8], from: usize, n: u64)
     requires { from + 8 ≤ length out.old }
 {
-    let mut carry = n;
-    let mut i = 0usize;
-    while i < 8 {
-        let sum = std::num::wrapping_add_u64(carry, wide(out[from + i]));
-        out[from + i] = low(sum);
-        carry = sum / 256;
-        i += 1usize;
-    }
+    let sum = kept(out, from).wrapping_add(n);
+    out[from..from + 8].copy_from_slice(&sum.to_le_bytes());
 }
 
 // the number of which the eight bytes from `from` on are the digits, the lowest first
 fn kept(out: &[u8], from: usize) -> u64
     requires { from + 8 ≤ length out.now }
 {
-    let mut n = 0u64;
-    let mut i = 8usize;
-    while 0 < i {
-        i -= 1usize;
-        n = n % 72057594037927936 * 256 + wide(out[from + i]);
+    match out[from..].first_chunk::<8>() {
+        Some(bytes) => u64::from_le_bytes(*bytes),
+        None => 0,
     }
-    n
 }
 
 // how many lines have been written
@@ -96,8 +72,7 @@ pub fn is_lost(out: &[u8]) -> bool {
     if out.len() < KEPT {
         return false;
     }
-    let i = out.len() - 8;
-    out[i] != 0
+    out[out.len() - 8] != 0
 }
 
 fn set_lost(out: &mut [u8]) {
@@ -145,11 +120,7 @@ pub fn flush(stdout: Stdout, out: &mut [u8], at: usize) {
 fn copy(out: &mut [u8], at: usize, s: &[u8])
     requires { at + length s.now ≤ length out.old }
 {
-    let mut i = 0usize;
-    while i < s.len() {
-        out[at + i] = s[i];
-        i += 1usize;
-    }
+    out[at..at + s.len()].copy_from_slice(s);
 }
 
 // the bytes, at the start
@@ -187,15 +158,12 @@ pub fn whole(stdout: Stdout, out: &mut [u8], at: usize, n: u64) -> usize {
 fn glyph(n: u32) -> u8
     ensures { result ≡ glyph_of n }
 {
-    let d = n % 16;
-    if d < 10 {
-        return 48 + d as u8;
-    }
-    55 + d as u8
+    let d = (n % 16) as u8;
+    if d < 10 { b'0' + d } else { b'A' - 10 + d }
 }
 
 // eight hexadecimal digits
-fn digits(n: u32) -> [u8; 8]
+pub fn digits(n: u32) -> [u8; 8]
     ensures { result ≡ glyphs_of n }
 {
     [
@@ -218,18 +186,12 @@ pub fn float(stdout: Stdout, out: &mut [u8], at: usize, x: f32) -> usize {
 
 // 1 or 0
 pub fn flag(stdout: Stdout, out: &mut [u8], at: usize, on: bool) -> usize {
-    if on {
-        return put(stdout, out, at, b"1");
-    }
-    put(stdout, out, at, b"0")
+    either(stdout, out, at, on, b"1", b"0")
 }
 
 // the first text, or the second
 pub fn either(stdout: Stdout, out: &mut [u8], at: usize, first: bool, a: &[u8], b: &[u8]) -> usize {
-    if first {
-        return put(stdout, out, at, a);
-    }
-    put(stdout, out, at, b)
+    put(stdout, out, at, if first { a } else { b })
 }
 
 // ---- a name, and what stands after it
@@ -256,39 +218,24 @@ const SHOWN: usize = 40;
 
 // the byte where it can be seen, else a question mark
 fn visible(b: u8) -> u8 {
-    if b < 33 {
-        return 63;
-    }
-    if 126 < b {
-        return 63;
-    }
-    b
+    if b.is_ascii_graphic() { b } else { b'?' }
 }
 
-fn least(a: usize, b: usize) -> usize
-    ensures { (result ≤ a) × (result ≤ b) }
-{
-    if a < b { a } else { b }
-}
-
-// the first n bytes of a word, as far as they can be seen
-fn shown(w: &[u8], n: usize) -> [u8; SHOWN]
-    requires { (n ≤ length w.now) × (n ≤ 40) }
+// the first bytes of a word, as far as they can be seen
+fn shown(w: &[u8]) -> [u8; SHOWN]
     ensures { length result ≡ 40 }
 {
     let mut cell = [0u8; SHOWN];
-    let mut i = 0usize;
-    while i < n {
-        cell[i] = visible(w[i]);
-        i += 1usize;
+    for (x, &b) in cell.iter_mut().zip(w) {
+        *x = visible(b);
     }
     cell
 }
 
 // a word between quotes: at most 40 bytes of it, and two points where there are more
 pub fn quoted(stdout: Stdout, out: &mut [u8], at: usize, w: &[u8]) -> usize {
-    let n = least(w.len(), SHOWN);
-    let cell = shown(w, n);
+    let n = w.len().min(SHOWN);
+    let cell = shown(w);
     let p = put(stdout, out, at, b"'");
     let q = put(stdout, out, p, &cell[0..n]);
     either(stdout, out, q, n < w.len(), b"..'", b"'")
@@ -309,5 +256,5 @@ fn lines(out: &[u8], at: usize) -> u64 {
     if out.len() < at {
         return written(out);
     }
-    std::num::wrapping_add_u64(written(out), feeds(&out[0..at]))
+    written(out).wrapping_add(feeds(&out[0..at]))
 }

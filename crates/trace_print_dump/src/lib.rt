@@ -1,9 +1,8 @@
 // A compiled program as text: PROGRAM, SKIP, PLAN and ROUTE lines (oracle/README.md, What is printed). The offsets are the port's own: docs/CALLS.md, Memories.
 #![tactic(auto)]
 
-ghost use Rattle.std.specs.Prelude.{◌≡◌, ◌≤◌, length};
-
-use state::{Aux, Base, Gain, Input, Plan, Program, Read, Reason, Route, Skipped, Slew};
+use config::SLOTS;
+use state::{Base, Gain, Input, Plan, Program, Read, Reason, Route, Skipped, Slew};
 use std::io::Stdout;
 
 // ---- the program
@@ -38,21 +37,10 @@ fn skip(stdout: Stdout, k: Skipped, out: &mut [u8], at: usize) -> usize {
     reason(stdout, why, out, p)
 }
 
-// a count, held to 64
-fn held(n: usize) -> usize
-    ensures { result ≤ 64 }
-{
-    if n < 64 { n } else { 64 }
-}
-
 fn skips(stdout: Stdout, program: Program, out: &mut [u8], at: usize) -> usize {
-    let n = held(program.skips);
-    let skipped = program.skipped;
     let mut p = at;
-    let mut i = 0usize;
-    while i < n {
-        p = skip(stdout, skipped[i], out, p);
-        i += 1usize;
+    for k in program.skipped.iter().take(program.skips) {
+        p = skip(stdout, *k, out, p);
     }
     p
 }
@@ -98,13 +86,9 @@ fn plan_line(stdout: Stdout, plan: Plan, i: usize, out: &mut [u8], at: usize) ->
 }
 
 fn plans(stdout: Stdout, program: Program, out: &mut [u8], at: usize) -> usize {
-    let n = held(program.plans);
-    let plan = program.plan;
     let mut p = at;
-    let mut i = 0usize;
-    while i < n {
-        p = plan_line(stdout, plan[i], i, out, p);
-        i += 1usize;
+    for (i, plan) in program.plan.iter().enumerate().take(program.plans) {
+        p = plan_line(stdout, *plan, i, out, p);
     }
     p
 }
@@ -112,11 +96,10 @@ fn plans(stdout: Stdout, program: Program, out: &mut [u8], at: usize) -> usize {
 // ---- routes
 
 fn dest_of(dests: &[usize], i: u8) -> u64 {
-    let k = i as usize;
-    if k < dests.len() {
-        return dests[k] as u64;
+    match dests.get(i as usize) {
+        Some(dest) => *dest as u64,
+        None => 65535,
     }
-    65535
 }
 
 fn fed(stdout: Stdout, dests: &[usize], i: u8, voice: bool, out: &mut [u8], at: usize) -> usize {
@@ -158,10 +141,10 @@ fn limit(stdout: Stdout, up: f32, down: f32, out: &mut [u8], at: usize) -> usize
     trace_output_show::float_after(stdout, out, p, b":", down)
 }
 
-fn slew(stdout: Stdout, s: Slew, out: &mut [u8], at: usize) -> usize {
+fn slew(stdout: Stdout, s: Option<Slew>, out: &mut [u8], at: usize) -> usize {
     match s {
-        Slew::Free => trace_output_show::put(stdout, out, at, b"-"),
-        Slew::Limit { up, down } => limit(stdout, up, down, out, at),
+        None => trace_output_show::put(stdout, out, at, b"-"),
+        Some(Slew { up, down }) => limit(stdout, up, down, out, at),
     }
 }
 
@@ -174,60 +157,26 @@ fn input(stdout: Stdout, i: Input, dests: &[usize], out: &mut [u8], at: usize) -
     slew(stdout, s, out, p)
 }
 
-fn aux_input(stdout: Stdout, a: Aux, dests: &[usize], out: &mut [u8], at: usize) -> usize {
+fn aux_input(
+    stdout: Stdout,
+    a: Option<Input>,
+    dests: &[usize],
+    out: &mut [u8],
+    at: usize,
+) -> usize {
     match a {
-        Aux::Missing => trace_output_show::put(stdout, out, at, b"-"),
-        Aux::With(i) => input(stdout, i, dests, out, at),
-    }
-}
-
-fn is_signal(r: Read) -> bool {
-    match r {
-        Read::Signal {
-            source: _,
-            voice: _,
-        } => true,
-        Read::Held {
-            source: _,
-            voice: _,
-        } => false,
-        Read::Fed { plan: _, voice: _ } => false,
-        Read::Constant => false,
-        Read::RouteRandom => false,
-    }
-}
-
-fn is_free(s: Slew) -> bool {
-    match s {
-        Slew::Free => true,
-        Slew::Limit { up: _, down: _ } => false,
+        None => trace_output_show::put(stdout, out, at, b"-"),
+        Some(i) => input(stdout, i, dests, out, at),
     }
 }
 
 fn input_steady(i: Input) -> bool {
-    let r = i.read;
-    if is_signal(r) {
-        return false;
-    }
-    let s = i.slew;
-    is_free(s)
-}
-
-fn aux_steady(a: Aux) -> bool {
-    match a {
-        Aux::Missing => true,
-        Aux::With(i) => input_steady(i),
-    }
+    !matches!(i.read, Read::Signal { .. }) && i.slew.is_none()
 }
 
 // whether a route's value can't change within a control period: it reads no signal and slews nothing (program.rs 108-110, 492-495)
 fn steady(route: Route) -> bool {
-    let source = route.source;
-    if !input_steady(source) {
-        return false;
-    }
-    let aux = route.aux;
-    aux_steady(aux)
+    input_steady(route.source) && route.aux.is_none_or(input_steady)
 }
 
 fn route_numbers(
@@ -295,53 +244,27 @@ fn route_line(
 }
 
 fn has_route(plan: Plan, i: usize) -> bool {
-    let first = plan.first;
-    if i < first {
-        return false;
-    }
-    i - first < plan.count
+    plan.first <= i && i - plan.first < plan.count
 }
 
 // the plan whose routes route i is among
 fn plan_of(program: Program, i: usize) -> usize {
-    let n = held(program.plans);
-    let plan = program.plan;
-    let mut k = 0usize;
-    while k < n {
-        if has_route(plan[k], i) {
-            return k;
-        }
-        k += 1usize;
+    let mut plans = program.plan.iter().take(program.plans);
+    match plans.position(|plan| has_route(*plan, i)) {
+        Some(k) => k,
+        None => program.plans.min(SLOTS),
     }
-    n
-}
-
-fn plan_dest(plan: Plan) -> usize {
-    plan.dest as usize
 }
 
 // the destinations of the plans
-fn dests_of(program: Program) -> [usize; 64]
-    ensures { length result ≡ 64 }
-{
-    let plan = program.plan;
-    let mut dests = [0usize; 64];
-    let mut k = 0usize;
-    while k < 64 {
-        dests[k] = plan_dest(plan[k]);
-        k += 1usize;
-    }
-    dests
+fn dests_of(program: Program) -> [usize; SLOTS] {
+    program.plan.map(|plan| plan.dest as usize)
 }
 
 fn routes(stdout: Stdout, program: Program, dests: &[usize], out: &mut [u8], at: usize) -> usize {
-    let n = held(program.routes);
-    let route = program.route;
     let mut p = at;
-    let mut i = 0usize;
-    while i < n {
-        p = route_line(stdout, route[i], i, plan_of(program, i), dests, out, p);
-        i += 1usize;
+    for (i, route) in program.route.iter().enumerate().take(program.routes) {
+        p = route_line(stdout, *route, i, plan_of(program, i), dests, out, p);
     }
     p
 }

@@ -1,19 +1,10 @@
 // An engine's state: the S lines. The clock is printed as the phase, the count of gliding values as 0, and there are no note counters: none of these is kept.
-ghost use Rattle.std.specs.Prelude.{◌≡◌, ◌≤◌, length};
-
 use config::{SLOTS, SOURCES, VOICES};
 use state::{Gains, State};
 use std::io::Stdout;
-use voice::{Glide, Marks, Newest, Notes, Voices};
+use voice::{Glide, Marks, Notes, Voices};
 
 // ---- lanes
-
-// a count of lanes, at most 64
-fn held_lanes(n: usize) -> usize
-    ensures { result ≤ 64 }
-{
-    if n < VOICES { n } else { VOICES }
-}
 
 fn flags(
     stdout: Stdout,
@@ -23,35 +14,11 @@ fn flags(
     out: &mut [u8],
     at: usize,
 ) -> usize {
-    let lanes = held_lanes(n);
     let mut p = trace_output_show::put(stdout, out, at, name);
-    let mut v = 0usize;
-    while v < lanes {
-        p = trace_output_show::flag(stdout, out, p, on[v]);
-        v += 1usize;
+    for is_on in on.iter().take(n) {
+        p = trace_output_show::flag(stdout, out, p, *is_on);
     }
     trace_output_show::put(stdout, out, p, b"\n")
-}
-
-// a glide's step, or its target
-fn glide_number(glide: Glide, step: bool) -> f32 {
-    if step {
-        return glide.step;
-    }
-    glide.target
-}
-
-// the steps of glides, or their targets
-fn glide_row(glide: [Glide; VOICES], step: bool) -> [f32; VOICES]
-    ensures { length result ≡ 64 }
-{
-    let mut out = [0.0f32; VOICES];
-    let mut v = 0usize;
-    while v < VOICES {
-        out[v] = glide_number(glide[v], step);
-        v += 1usize;
-    }
-    out
 }
 
 // a name and the first n numbers
@@ -70,10 +37,10 @@ fn row_line(
 
 // ---- the first line
 
-fn newest(stdout: Stdout, n: Newest, out: &mut [u8], at: usize) -> usize {
+fn newest(stdout: Stdout, n: Option<usize>, out: &mut [u8], at: usize) -> usize {
     match n {
-        Newest::Nobody => trace_output_show::put(stdout, out, at, b" newest -"),
-        Newest::Voice(v) => trace_output_show::whole_after(stdout, out, at, b" newest ", v as u64),
+        None => trace_output_show::put(stdout, out, at, b" newest -"),
+        Some(v) => trace_output_show::whole_after(stdout, out, at, b" newest ", v as u64),
     }
 }
 
@@ -135,21 +102,6 @@ fn value_lines(
     row_line(stdout, b"S notevalue 1", &keys, n, canon, out, p)
 }
 
-fn glide_line(
-    stdout: Stdout,
-    name: &[u8],
-    notes: Notes,
-    step: bool,
-    n: usize,
-    canon: bool,
-    out: &mut [u8],
-    at: usize,
-) -> usize {
-    let glide = notes.glide;
-    let row = glide_row(glide, step);
-    row_line(stdout, name, &row, n, canon, out, at)
-}
-
 fn glide_lines(
     stdout: Stdout,
     velocity: Notes,
@@ -159,10 +111,12 @@ fn glide_lines(
     out: &mut [u8],
     at: usize,
 ) -> usize {
-    let mut p = glide_line(stdout, b"S target 0", velocity, false, n, canon, out, at);
-    p = glide_line(stdout, b"S step 0", velocity, true, n, canon, out, p);
-    p = glide_line(stdout, b"S target 1", key, false, n, canon, out, p);
-    glide_line(stdout, b"S step 1", key, true, n, canon, out, p)
+    let target = |notes: Notes| notes.glide.map(|g: Glide| g.target);
+    let step = |notes: Notes| notes.glide.map(|g: Glide| g.step);
+    let mut p = row_line(stdout, b"S target 0", &target(velocity), n, canon, out, at);
+    p = row_line(stdout, b"S step 0", &step(velocity), n, canon, out, p);
+    p = row_line(stdout, b"S target 1", &target(key), n, canon, out, p);
+    row_line(stdout, b"S step 1", &step(key), n, canon, out, p)
 }
 
 // ---- held numbers, bases and gains
@@ -197,10 +151,8 @@ fn held_lines(
 ) -> usize {
     let n = trace_output_figures::lesser(sources, SOURCES);
     let mut p = at;
-    let mut s = 0usize;
-    while s < n {
+    for s in 0..n {
         p = held_line(stdout, held, s, stride, canon, out, p);
-        s += 1usize;
     }
     p
 }

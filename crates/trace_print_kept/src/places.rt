@@ -1,8 +1,6 @@
 // The installed program's own memory: the M lines. Its places are those of docs/CALLS.md, Memories.
-ghost use Rattle.std.specs.Prelude.{◌≤◌};
-
 use config::{Config, DESTINATIONS, FRAMES, SLOTS};
-use state::{Aux, Input, Plan, Program, Read, Route, Slew};
+use state::{Input, Plan, Program, Read, Route};
 use std::io::Stdout;
 
 // The sizes that places follow from: the lane stride, the frames, and the numbers of a plan and of all plans in the values.
@@ -28,13 +26,6 @@ fn sizes_of(config: Config, plans: usize) -> Sizes {
         plan,
         plans: trace_output_figures::product(plans, plan),
     }
-}
-
-// a count, at most 64
-fn held(n: usize) -> usize
-    ensures { result ≤ 64 }
-{
-    if n < SLOTS { n } else { SLOTS }
 }
 
 fn width(stride: usize, voice: bool) -> usize {
@@ -86,56 +77,21 @@ fn ticks(
     out: &mut [u8],
     at: usize,
 ) -> usize {
-    let n = held(program.control);
-    let plan = program.plan;
     let mut p = at;
-    let mut i = 0usize;
-    while i < n {
-        p = tick_lines(stdout, plan[i], i, s, values, canon, out, p);
-        i += 1usize;
+    for (i, plan) in program.plan.iter().enumerate().take(program.control) {
+        p = tick_lines(stdout, *plan, i, s, values, canon, out, p);
     }
     p
 }
 
 // ---- slews and random inputs
 
-fn is_limit(s: Slew) -> bool {
-    match s {
-        Slew::Free => false,
-        Slew::Limit { up: _, down: _ } => true,
-    }
-}
-
-fn is_random(r: Read) -> bool {
-    match r {
-        Read::Signal {
-            source: _,
-            voice: _,
-        } => false,
-        Read::Held {
-            source: _,
-            voice: _,
-        } => false,
-        Read::Fed { plan: _, voice: _ } => false,
-        Read::Constant => false,
-        Read::RouteRandom => true,
-    }
-}
-
 // whether an input keeps random numbers, or a slew
 fn keeps(input: Input, random: bool) -> bool {
     if random {
-        let r = input.read;
-        return is_random(r);
-    }
-    let s = input.slew;
-    is_limit(s)
-}
-
-fn aux_keeps(aux: Aux, random: bool) -> bool {
-    match aux {
-        Aux::Missing => false,
-        Aux::With(input) => keeps(input, random),
+        matches!(input.read, Read::RouteRandom)
+    } else {
+        input.slew.is_some()
     }
 }
 
@@ -186,8 +142,7 @@ fn aux_line(
     out: &mut [u8],
     at: usize,
 ) -> usize {
-    let aux = route.aux;
-    if !aux_keeps(aux, random) {
+    if !route.aux.is_some_and(|input| keeps(input, random)) {
         return at;
     }
     let lanes = trace_output_figures::row_of(mem, 1, stride);
@@ -218,16 +173,12 @@ fn route_lines(
     out: &mut [u8],
     at: usize,
 ) -> usize {
-    let n = held(program.routes);
-    let route = program.route;
     let stride = s.stride;
     let mut p = at;
-    let mut r = 0usize;
-    while r < n {
+    for (r, route) in program.route.iter().enumerate().take(program.routes) {
         let mem = route_part(values, s, r, random);
-        p = source_line(stdout, route[r], random, mem, stride, canon, out, p);
-        p = aux_line(stdout, route[r], random, mem, stride, canon, out, p);
-        r += 1usize;
+        p = source_line(stdout, *route, random, mem, stride, canon, out, p);
+        p = aux_line(stdout, *route, random, mem, stride, canon, out, p);
     }
     p
 }
@@ -258,13 +209,6 @@ fn audio_line(
     trace_output_show::put(stdout, out, p, b"\n")
 }
 
-fn is_audio_of(plan: Plan, dest: usize) -> bool {
-    if plan.audio {
-        return plan.dest as usize == dest;
-    }
-    false
-}
-
 // the audio rows of a destination
 fn audio_of(
     stdout: Stdout,
@@ -275,14 +219,10 @@ fn audio_of(
     out: &mut [u8],
     at: usize,
 ) -> usize {
-    let n = held(program.plans);
-    let plan = program.plan;
-    let mut i = 0usize;
-    while i < n {
-        if is_audio_of(plan[i], dest) {
-            return audio_line(stdout, plan[i], i, s, audio, out, at);
+    for (i, plan) in program.plan.iter().enumerate().take(program.plans) {
+        if plan.audio && plan.dest as usize == dest {
+            return audio_line(stdout, *plan, i, s, audio, out, at);
         }
-        i += 1usize;
     }
     at
 }
@@ -297,10 +237,8 @@ fn all_audio(
 ) -> usize {
     let n = trace_output_figures::lesser(program.dests, DESTINATIONS);
     let mut p = at;
-    let mut d = 0usize;
-    while d < n {
+    for d in 0..n {
         p = audio_of(stdout, program, d, s, audio, out, p);
-        d += 1usize;
     }
     p
 }
@@ -342,7 +280,7 @@ pub fn memory(
     at: usize,
 ) -> usize {
     let config = program.config;
-    let s = sizes_of(config, held(program.plans));
+    let s = sizes_of(config, program.plans.min(SLOTS));
     let p = head(stdout, name, primed, out, at);
     all_lines(stdout, program, s, values, audio, canon, out, p)
 }

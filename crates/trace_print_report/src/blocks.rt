@@ -3,12 +3,14 @@ ghost use Rattle.std.specs.Prelude.{◌≡◌, ℕ, ◌<◌, length, get_or, set
 ghost use Rattle.config.specs.Sizes.{slots, most_frames, most_chunks};
 ghost use Rattle.trace_print_order.specs.Order.{placed};
 
-use crate::{How, Print, Told};
+use crate::{How, Print};
 use config::{DESTINATIONS, SLOTS};
-use engine::Engine;
-use state::{Chunk, ChunkRead, Output, Plan, Program};
+use engine::{Engine, Output};
+use refusal::Refusal;
+use state::{Chunk, Program};
 use std::io::Stdout;
 use trace_print_order::NONE;
+use trace_stops::{Fault, Stop};
 
 // Which audio rows are printed, and how.
 #[derive(Clone, Copy)]
@@ -24,42 +26,17 @@ const CHUNKS: usize = 130;
 
 // ---- which destinations have plans
 
-// the destination of a plan that is there, and at control rate where only those are asked for
-fn dest_of(plan: Plan, there: bool, control: bool) -> usize {
-    if !there {
-        return NONE;
-    }
-    if control && plan.audio {
-        return NONE;
-    }
-    plan.dest as usize
-}
-
 // the destinations of the plans, or of the control plans; NONE at others
 fn dests_of(program: Program, control: bool) -> [usize; SLOTS]
     ensures { length result ≡ 64 }
 {
-    let plans = program.plans;
-    let plan = program.plan;
     let mut dests = [NONE; SLOTS];
-    let mut k = 0usize;
-    while k < SLOTS {
-        dests[k] = dest_of(plan[k], k < plans, control);
-        k += 1usize;
+    for (dest, plan) in dests.iter_mut().zip(&program.plan).take(program.plans) {
+        if !(control && plan.audio) {
+            *dest = plan.dest as usize;
+        }
     }
     dests
-}
-
-// whether d is among them
-fn has(dests: &[usize], d: usize) -> bool {
-    let mut k = 0usize;
-    while k < dests.len() {
-        if dests[k] == d {
-            return true;
-        }
-        k += 1usize;
-    }
-    false
 }
 
 // ---- chunks
@@ -71,14 +48,14 @@ fn chunk_places(stdout: Stdout, n: usize, k: Chunk, out: &mut [u8], at: usize) -
 }
 
 // a number, and where the chunk stands
-fn chunk_read(stdout: Stdout, n: usize, read: ChunkRead, out: &mut [u8], at: usize) -> usize {
+fn chunk_read(stdout: Stdout, n: usize, read: Option<Chunk>, out: &mut [u8], at: usize) -> usize {
     match read {
-        ChunkRead::Nothing => at,
-        ChunkRead::Chunk(k) => chunk_places(stdout, n, k, out, at),
+        None => at,
+        Some(k) => chunk_places(stdout, n, k, out, at),
     }
 }
 
-fn chunk_line(stdout: Stdout, read: ChunkRead, i: usize, out: &mut [u8], at: usize) -> usize {
+fn chunk_line(stdout: Stdout, read: Option<Chunk>, i: usize, out: &mut [u8], at: usize) -> usize {
     let mut p = trace_output_show::put(stdout, out, at, b"CHUNK ");
     p = chunk_read(stdout, i, read, out, p);
     trace_output_show::put(stdout, out, p, b"\n")
@@ -86,10 +63,8 @@ fn chunk_line(stdout: Stdout, read: ChunkRead, i: usize, out: &mut [u8], at: usi
 
 fn chunk_lines(stdout: Stdout, engine: Engine, chunks: usize, out: &mut [u8], at: usize) -> usize {
     let mut p = at;
-    let mut i = 0usize;
-    while i < chunks {
+    for i in 0..chunks {
         p = chunk_line(stdout, engine.chunk(i), i, out, p);
-        i += 1usize;
     }
     p
 }
@@ -135,11 +110,9 @@ fn control_full(
     at: usize,
 ) -> usize {
     let mut p = at;
-    let mut i = 0usize;
-    while i < chunks {
+    for i in 0..chunks {
         p = row_line(stdout, b"FROM ", from, s, i, out, p);
         p = row_line(stdout, b"TO ", to, s, i, out, p);
-        i += 1usize;
     }
     p
 }
@@ -227,13 +200,11 @@ fn control_cases(
 {
     let mut printed = [0usize; CHUNKS];
     let mut p = at;
-    let mut i = 0usize;
-    while i < chunks {
+    for i in 0..chunks {
         let line = case_line(stdout, engine, from, to, s, i, out, p);
         p = line.at;
         let next = noted(printed, i, line.of);
         printed = next;
-        i += 1usize;
     }
     Rows {
         at: p,
@@ -265,15 +236,12 @@ fn control(
     out: &mut [u8],
     at: usize,
 ) -> usize {
-    let mut code = 0u8;
-    let from = engine.from_part(values, s.dest, &mut code);
-    if code != 0 {
+    let Ok(from) = engine.from_part(values, s.dest) else {
         return at;
-    }
-    let to = engine.to_part(values, s.dest, &mut code);
-    if code != 0 {
+    };
+    let Ok(to) = engine.to_part(values, s.dest) else {
         return at;
-    }
+    };
     match print {
         Print::Full => control_full(stdout, from, to, s, chunks, out, at),
         Print::Hash => control_hash(stdout, from, to, s, chunks, out, at),
@@ -294,10 +262,8 @@ fn audio_full(
     at: usize,
 ) -> usize {
     let mut p = at;
-    let mut k = start;
-    while k < stop {
+    for k in start..stop {
         p = row_line(stdout, b"A ", audio, s, k, out, p);
-        k += 1usize;
     }
     p
 }
@@ -353,15 +319,6 @@ fn audio(stdout: Stdout, audio: &[f32], s: Shape, span: Span, out: &mut [u8], at
 
 // ---- every destination
 
-fn is_cases(print: Print) -> bool {
-    match print {
-        Print::Full => false,
-        Print::Hash => false,
-        Print::Cases => true,
-        Print::Silent => false,
-    }
-}
-
 // a control plan; the chunks stand before the first
 fn control_after(
     stdout: Stdout,
@@ -391,11 +348,9 @@ fn sounded(
     out: &mut [u8],
     at: usize,
 ) -> usize {
-    let mut code = 0u8;
-    let rows = engine.audio_part(mem, s.dest, &mut code);
-    if code != 0 {
+    let Ok(rows) = engine.audio_part(mem, s.dest) else {
         return at;
-    }
+    };
     audio(stdout, rows, s, span, out, at)
 }
 
@@ -414,13 +369,12 @@ fn shown(
     let print = span.print;
     let canon = span.canon;
     match engine.output(values, mem, dest) {
-        Output::Refused(_) => at,
-        Output::Unmodulated => at,
-        Output::Audio { width } => {
+        Err(_) | Ok(Output::Unmodulated) => at,
+        Ok(Output::Audio { width }) => {
             let s = Shape { dest, width, canon };
             sounded(stdout, engine, mem, s, span, out, at)
         }
-        Output::Control { width, chunks } => {
+        Ok(Output::Control { width, chunks }) => {
             let s = Shape { dest, width, canon };
             control_after(stdout, engine, first, values, s, chunks, print, out, at)
         }
@@ -473,8 +427,7 @@ fn planned(
 {
     let mut printed = [NONE; SLOTS];
     let mut p = at;
-    let mut k = 0usize;
-    while k < SLOTS {
+    for k in 0..SLOTS {
         let d = order[k];
         if d == NONE {
             return Printed {
@@ -485,7 +438,6 @@ fn planned(
         let lines = one(stdout, engine, d, d == first, values, audio, span, out, p);
         p = lines.at;
         printed[k] = lines.of;
-        k += 1usize;
     }
     Printed {
         at: p,
@@ -495,7 +447,7 @@ fn planned(
 
 // a destination without a plan, after a blank
 fn plain(stdout: Stdout, dests: &[usize], d: usize, out: &mut [u8], at: usize) -> usize {
-    if has(dests, d) {
+    if dests.contains(&d) {
         return at;
     }
     trace_output_show::whole_after(stdout, out, at, b" ", d as u64)
@@ -503,24 +455,15 @@ fn plain(stdout: Stdout, dests: &[usize], d: usize, out: &mut [u8], at: usize) -
 
 fn plains(stdout: Stdout, dests: &[usize], n: usize, out: &mut [u8], at: usize) -> usize {
     let mut p = at;
-    let mut d = 0usize;
-    while d < n {
+    for d in 0..n {
         p = plain(stdout, dests, d, out, p);
-        d += 1usize;
     }
     p
 }
 
 // whether every destination below n has a plan
 fn all_planned(dests: &[usize], n: usize) -> bool {
-    let mut d = 0usize;
-    while d < n {
-        if !has(dests, d) {
-            return false;
-        }
-        d += 1usize;
-    }
-    true
+    (0..n).all(|d| dests.contains(&d))
 }
 
 fn unmodulated(
@@ -531,7 +474,7 @@ fn unmodulated(
     out: &mut [u8],
     at: usize,
 ) -> usize {
-    if is_cases(print) {
+    if matches!(print, Print::Cases) {
         return at;
     }
     if all_planned(dests, n) {
@@ -552,7 +495,7 @@ fn count(a: usize, b: usize) -> usize {
 
 // the destination that the chunks stand before: the first of a control plan, where chunks are printed
 fn chunks_at(program: Program, print: Print) -> usize {
-    if is_cases(print) {
+    if matches!(print, Print::Cases) {
         return NONE;
     }
     let controls = dests_of(program, true);
@@ -590,69 +533,29 @@ fn all(
     unmodulated(stdout, &with_plans, n, print, out, printed.at)
 }
 
-fn is_silent(print: Print) -> bool {
-    match print {
-        Print::Full => false,
-        Print::Hash => false,
-        Print::Cases => false,
-        Print::Silent => true,
+// of two calls the refusal of the greater row, where one is refused
+fn either_refused<A: Drop, B: Drop>(
+    a: Result<A, Refusal>,
+    b: Result<B, Refusal>,
+) -> Option<Refusal> {
+    match (a.err(), b.err()) {
+        (Some(x), Some(y)) => Some(if x.number() < y.number() { y } else { x }),
+        (x, y) => x.or(y),
     }
 }
 
-fn code_of(output: Output) -> u8 {
-    match output {
-        Output::Refused(code) => code,
-        Output::Unmodulated => 0,
-        Output::Audio { width: _ } => 0,
-        Output::Control {
-            width: _,
-            chunks: _,
-        } => 0,
+// Whether outputs are refused: every call that shows them owes the same.
+fn judged(engine: Engine, values: &[f32], audio: &[f32]) -> Result<(), Stop> {
+    let shape = engine.output(values, audio, 0).err();
+    let rows = either_refused(engine.audio_part(audio, 0), engine.from_part(values, 0));
+    let ends = either_refused(engine.frame(audio, 0, 0), engine.to_part(values, 0));
+    if shape != rows || shape != ends {
+        return Err(Stop::Error(Fault::Parted));
     }
-}
-
-// no row's number: calls that owe one number gave two
-const PARTED: u8 = 99;
-
-// the greater number
-fn most(a: u8, b: u8) -> u8 {
-    if a < b {
-        return b;
+    match shape {
+        Some(row) => Err(Stop::Refused(row)),
+        None => Ok(()),
     }
-    a
-}
-
-// a number that two calls owe
-fn agreed(a: u8, b: u8) -> u8 {
-    if a == b {
-        return a;
-    }
-    PARTED
-}
-
-// the number by which whole rows are refused
-fn rows_code(engine: Engine, values: &[f32], audio: &[f32]) -> u8 {
-    let mut sound = 0u8;
-    let mut from = 0u8;
-    let a = engine.audio_part(audio, 0, &mut sound);
-    let b = engine.from_part(values, 0, &mut from);
-    most(sound, from)
-}
-
-// the number by which a frame, or the ends of chunks, are refused
-fn ends_code(engine: Engine, values: &[f32], audio: &[f32]) -> u8 {
-    let mut sound = 0u8;
-    let mut to = 0u8;
-    let a = engine.frame(audio, 0, 0, &mut sound);
-    let b = engine.to_part(values, 0, &mut to);
-    most(sound, to)
-}
-
-// the number by which outputs are refused, as every call that shows them gives it
-fn outputs_code(engine: Engine, values: &[f32], audio: &[f32]) -> u8 {
-    let shape = code_of(engine.output(values, audio, 0));
-    let rows = agreed(shape, rows_code(engine, values, audio));
-    agreed(rows, ends_code(engine, values, audio))
 }
 
 // The outputs of the destinations below `dests` (the session's registry) and of those that the installed program was
@@ -668,14 +571,11 @@ pub fn outputs(
     how: How,
     out: &mut [u8],
     at: usize,
-) -> Told {
-    let code = outputs_code(engine, values, audio);
-    if code != 0 {
-        return Told { code, at };
-    }
+) -> Result<usize, Stop> {
+    judged(engine, values, audio)?;
     let print = how.print;
-    if is_silent(print) {
-        return Told { code: 0, at };
+    if matches!(print, Print::Silent) {
+        return Ok(at);
     }
     let span = Span {
         start,
@@ -683,6 +583,5 @@ pub fn outputs(
         print,
         canon: how.canon,
     };
-    let p = all(stdout, engine, dests, values, audio, span, out, at);
-    Told { code: 0, at: p }
+    Ok(all(stdout, engine, dests, values, audio, span, out, at))
 }

@@ -22,10 +22,3 @@ pub struct How {
     pub print: Print,
     pub canon: bool,
 }
-
-// Where the output goes on, or the row by which the call was refused, with nothing printed.
-#[derive(Clone, Copy)]
-pub struct Told {
-    pub code: u8,
-    pub at: usize,
-}

@@ -3,4 +3,4 @@
 
 mod programs;
 
-pub use programs::{LARGE_PROGRAM, Whole, number_of, put, whole_line};
+pub use programs::{Whole, number_of, put, whole_line};

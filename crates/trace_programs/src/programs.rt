@@ -1,19 +1,17 @@
 // Lines that make programs and engines, and that install programs.
-use engine::{Engine, Made, Swapped};
-use state::{Compiled, Program, Signals};
+use engine::{Engine, Swapped};
+use refusal::Refusal;
+use state::{Program, Signals};
 use std::io::Stdout;
 use trace_grammar::Making;
 use trace_setup_lending::{moved, pool_top};
 use trace_setup_preset::{DESK, NUMBERS, Preset};
+use trace_stops::{Limit, Stop};
 use trace_store_book::{
     AUDIO, AUDIO_PARTS, BARE, BASES, GLOBALS, HELD, INSTALLED, MATRIX_TABLES, NAMED, NEED,
     NEW_TABLES, OUT, OUTSIDE, OWN, PROGRAMS, ROUTES, TABLES, TABLES_PARTS, THERE, VALUES,
     VALUES_PARTS,
 };
-use trace_store_titles::MANY_PROGRAMS;
-
-// More numbers in values, audio or tables than there is room for.
-pub const LARGE_PROGRAM: u8 = 114;
 
 const TABLE_NUMBERS: usize = 66690;
 
@@ -22,17 +20,10 @@ const TABLE_NUMBERS: usize = 66690;
 #[derive(Clone, Copy)]
 pub struct Whole {
     pub at: usize,
-    pub code: u8,
     pub i: usize,
     pub engine: Engine,
     pub signals: Signals,
     pub program: Program,
-}
-
-fn refused(t: Whole, code: u8) -> Whole {
-    let mut next = t;
-    next.code = code;
-    next
 }
 
 // the number of the program that a line names, which it has from now on where the line compiles it
@@ -52,6 +43,14 @@ struct Needs {
     tables: usize,
     routes: usize,
 }
+
+// what no program needs
+const NO_NEEDS: Needs = Needs {
+    values: 0,
+    audio: 0,
+    tables: 0,
+    routes: 0,
+};
 
 fn tables_need(tabled: bool) -> usize {
     if tabled {
@@ -87,7 +86,7 @@ fn compile(
     values: &mut [f32],
     audio: &mut [f32],
     tables: &mut [f32],
-) -> Compiled {
+) -> Result<Program, Refusal> {
     let m = p.matrix;
     let sources = p.sources;
     let dests = p.dests;
@@ -127,7 +126,7 @@ fn tried(
     values: &mut [f32],
     audio: &mut [f32],
     pool: &mut [f32],
-) -> Compiled {
+) -> Result<Program, Refusal> {
     let v = trace_store_book::at_most(values_top(book), values.len());
     let u = trace_store_book::at_most(audio_top(book), audio.len());
     let t = trace_store_book::at_most(pool_top(book), pool.len());
@@ -148,7 +147,7 @@ fn pool_lent(
     values: &mut [f32],
     audio: &mut [f32],
     pool: &mut [f32],
-) -> Compiled {
+) -> Result<Program, Refusal> {
     let from = trace_store_book::at_most(pool_top(book), pool.len());
     let to = trace_store_book::reach(book, TABLES, TABLE_NUMBERS, from, pool.len());
     compile(
@@ -169,7 +168,7 @@ fn audio_lent(
     values: &mut [f32],
     audio: &mut [f32],
     pool: &mut [f32],
-) -> Compiled {
+) -> Result<Program, Refusal> {
     let from = trace_store_book::at_most(audio_top(book), audio.len());
     let to = trace_store_book::reach(book, AUDIO, need, from, audio.len());
     pool_lent(p, book, desk, values, &mut audio[from..to], pool)
@@ -184,7 +183,7 @@ fn lent(
     values: &mut [f32],
     audio: &mut [f32],
     pool: &mut [f32],
-) -> Compiled {
+) -> Result<Program, Refusal> {
     let from = trace_store_book::at_most(values_top(book), values.len());
     let to = trace_store_book::reach(book, VALUES, needs.values, from, values.len());
     audio_lent(
@@ -200,23 +199,20 @@ fn lent(
 
 // the second time, once it is known what the program needs; one that the pools have no room for is not refused by the call's number
 fn again(
-    first: Compiled,
+    first: Result<Program, Refusal>,
     p: Preset,
     book: &[usize],
     desk: &[f32],
     values: &mut [f32],
     audio: &mut [f32],
     pool: &mut [f32],
-) -> Compiled {
-    let program = first.program;
-    if first.code == 14 {
-        return Compiled {
-            code: LARGE_PROGRAM,
-            program,
-        };
-    }
-    let needs = needs_of(program);
-    lent(p, needs, book, desk, values, audio, pool)
+) -> Result<Program, Stop> {
+    let needs = match first {
+        Ok(program) => needs_of(program),
+        Err(Refusal::Memory) => return Err(Stop::TooLarge(Limit::Numbers)),
+        Err(_) => NO_NEEDS,
+    };
+    Ok(lent(p, needs, book, desk, values, audio, pool)?)
 }
 
 fn compiled(
@@ -226,7 +222,7 @@ fn compiled(
     values: &mut [f32],
     audio: &mut [f32],
     pool: &mut [f32],
-) -> Compiled {
+) -> Result<Program, Stop> {
     let first = tried(p, book, desk, values, audio, pool);
     again(first, p, book, desk, values, audio, pool)
 }
@@ -304,25 +300,6 @@ fn with_new(t: Whole, i: usize, program: Program, book: &[usize]) -> Whole {
     next
 }
 
-// what compiling program i came to
-fn stored(
-    t: Whole,
-    c: Compiled,
-    i: usize,
-    book: &mut [usize],
-    values: &mut [f32],
-    audio: &mut [f32],
-    pool: &mut [f32],
-) -> Whole {
-    let code = c.code;
-    if code != 0 {
-        return refused(t, code);
-    }
-    let program = c.program;
-    shelved(book, i, program.tabled, values, audio, pool);
-    with_new(t, i, program, book)
-}
-
 // program i is compiled
 fn on_program(
     t: Whole,
@@ -333,9 +310,10 @@ fn on_program(
     values: &mut [f32],
     audio: &mut [f32],
     pool: &mut [f32],
-) -> Whole {
-    let c = compiled(p, book, desk, values, audio, pool);
-    stored(t, c, i, book, values, audio, pool)
+) -> Result<Whole, Stop> {
+    let program = compiled(p, book, desk, values, audio, pool)?;
+    shelved(book, i, program.tabled, values, audio, pool);
+    Ok(with_new(t, i, program, book))
 }
 
 // `compile NAME`
@@ -348,9 +326,9 @@ fn on_compile(
     values: &mut [f32],
     audio: &mut [f32],
     pool: &mut [f32],
-) -> Whole {
+) -> Result<Whole, Stop> {
     if PROGRAMS <= i {
-        return refused(t, MANY_PROGRAMS);
+        return Err(Stop::TooLarge(Limit::Programs));
     }
     on_program(t, p, i, book, desk, values, audio, pool)
 }
@@ -372,25 +350,25 @@ fn room_given(
     base: usize,
     i: usize,
     n: usize,
-) -> bool {
+) -> Result<(), Limit> {
     let e = trace_store_book::sum(first, i);
-    if trace_store_names::len(book, e) == n {
-        return true;
+    if trace_store_names::len(book, e) == n
+        || trace_store_book::give(book, numbers, first, end, base, e, n)
+    {
+        return Ok(());
     }
-    trace_store_book::give(book, numbers, first, end, base, e, n)
+    Err(Limit::Numbers)
 }
 
-// values and audio are given to program i where it has none yet; false where there is no room
+// values and audio are given to program i where it has none yet
 fn given(
     book: &mut [usize],
     i: usize,
     needs: Needs,
     values: &mut [f32],
     audio: &mut [f32],
-) -> bool {
-    if !room_given(book, values, VALUES_PARTS, AUDIO_PARTS, 0, i, needs.values) {
-        return false;
-    }
+) -> Result<(), Limit> {
+    room_given(book, values, VALUES_PARTS, AUDIO_PARTS, 0, i, needs.values)?;
     room_given(
         book,
         audio,
@@ -458,23 +436,23 @@ fn installed(
     book: &mut [usize],
     values: &mut [f32],
     audio: &mut [f32],
-) -> Whole {
+) -> Result<Whole, Stop> {
     let k = installing(book, i);
-    if !given(book, k, needs, values, audio) {
-        return refused(t, LARGE_PROGRAM);
-    }
-    with_swapped(t, w, settled(book, i, k, needs))
+    given(book, k, needs, values, audio)?;
+    Ok(with_swapped(t, w, settled(book, i, k, needs)))
 }
 
 // `swap NAME`: program i, which is outside, is installed
-fn on_swap(t: Whole, i: usize, book: &mut [usize], values: &mut [f32], audio: &mut [f32]) -> Whole {
+fn on_swap(
+    t: Whole,
+    i: usize,
+    book: &mut [usize],
+    values: &mut [f32],
+    audio: &mut [f32],
+) -> Result<Whole, Stop> {
     let e = t.engine;
     let p = t.program;
-    let w = e.swap(p);
-    let code = w.code;
-    if code != 0 {
-        return refused(t, code);
-    }
+    let w = e.swap(p)?;
     installed(t, w, i, needs_of(p), book, values, audio)
 }
 
@@ -491,7 +469,7 @@ fn engine_needs(p: Preset) -> EngineNeeds {
     let config = p.config;
     let sources = p.sources;
     let dests = p.dests;
-    let stride = program::stride(config).n;
+    let stride = program::stride(config).unwrap_or(0);
     let n = sources.count;
     EngineNeeds {
         held: draw::wrapping_mul(stride as u64, n as u64) as usize,
@@ -508,7 +486,7 @@ fn engine_with(
     desk: &mut [f32],
     globals: &mut [f32],
     pool: &mut [f32],
-) -> Made {
+) -> Result<Engine, Refusal> {
     let sources = p.sources;
     let dests = p.dests;
     let config = p.config;
@@ -531,7 +509,7 @@ fn engine_made(
     book: &[usize],
     desk: &mut [f32],
     pool: &mut [f32],
-) -> Made {
+) -> Result<Engine, Refusal> {
     let mut globals = trace_setup_lending::globals(desk);
     let made = engine_with(p, n, book, desk, &mut globals, pool);
     trace_setup_lending::set_globals(desk, &globals);
@@ -546,13 +524,7 @@ fn opened(book: &mut [usize], n: EngineNeeds) {
     trace_store_book::set(book, trace_store_book::sum(NEED, OUT), 0);
     trace_store_book::set(book, INSTALLED, BARE);
     trace_store_book::set(book, THERE, 1);
-    let none = Needs {
-        values: 0,
-        audio: 0,
-        tables: 0,
-        routes: 0,
-    };
-    note_needs(book, none);
+    note_needs(book, NO_NEEDS);
 }
 
 // the program that is in the engine goes with it
@@ -579,32 +551,13 @@ fn entered(
     opened(book, n);
 }
 
-fn with_engine(t: Whole, m: Made, book: &[usize]) -> Whole {
-    let engine = m.engine;
+fn with_engine(t: Whole, engine: Engine, book: &[usize]) -> Whole {
     let before = t.signals;
     let signals = moved(before, book);
     let mut next = t;
     next.engine = engine;
     next.signals = signals;
     next
-}
-
-// what making an engine came to
-fn engine_set(
-    t: Whole,
-    m: Made,
-    n: EngineNeeds,
-    book: &mut [usize],
-    values: &mut [f32],
-    audio: &mut [f32],
-    pool: &mut [f32],
-) -> Whole {
-    let code = m.code;
-    if code != 0 {
-        return refused(t, code);
-    }
-    entered(n, book, values, audio, pool);
-    with_engine(t, m, book)
 }
 
 // `engine`
@@ -616,10 +569,11 @@ fn on_engine(
     values: &mut [f32],
     audio: &mut [f32],
     pool: &mut [f32],
-) -> Whole {
+) -> Result<Whole, Stop> {
     let n = engine_needs(p);
-    let m = engine_made(p, n, book, desk, pool);
-    engine_set(t, m, n, book, values, audio, pool)
+    let engine = engine_made(p, n, book, desk, pool)?;
+    entered(n, book, values, audio, pool);
+    Ok(with_engine(t, engine, book))
 }
 
 // a line about program i, or about the engine as a whole
@@ -633,7 +587,7 @@ pub fn whole_line(
     values: &mut [f32],
     audio: &mut [f32],
     pool: &mut [f32],
-) -> Whole {
+) -> Result<Whole, Stop> {
     match c {
         Making::Compile => on_compile(t, p, i, book, desk, values, audio, pool),
         Making::Swap => on_swap(t, i, book, values, audio),
@@ -656,7 +610,7 @@ fn put_engine(stdout: Stdout, e: Engine, out: &mut [u8], at: usize) -> usize {
 
 fn put_program(stdout: Stdout, p: Program, out: &mut [u8], at: usize) -> usize {
     let config = p.config;
-    trace_print_dump::program(stdout, p, program::stride(config).n, out, at)
+    trace_print_dump::program(stdout, p, program::stride(config).unwrap_or(0), out, at)
 }
 
 // what a line that was not refused prints

@@ -4,16 +4,14 @@
 ghost use Rattle.std.specs.Prelude.{◌≡◌, length};
 
 use config::SOURCES;
-use state::{Bound, SignalPart, Signals};
+use refusal::Refusal;
+use state::{SignalPart, Signals};
 use trace_grammar::Lending;
+use trace_stops::{Limit, Stop};
 use trace_store_book::{NAMED, SAMPLES_PARTS, TABLES_PARTS};
-use trace_store_names::TableMade;
 
 // Where the pool's parts begin.
 pub const BASE: usize = 1024;
-
-// More numbers in the pool than there is room for.
-pub const POOL_FULL: u8 = 112;
 
 // Where the engine's globals begin in the desk.
 pub const FROM: usize = 8192;
@@ -23,33 +21,18 @@ pub fn globals(desk: &[f32]) -> [f32; 128]
     ensures { length result ≡ 128 }
 {
     let mut numbers = [0.0f32; 128];
-    let mut i = 0usize;
-    while i < 128 {
-        numbers[i] = number_at(desk, trace_store_book::sum(FROM, i));
-        i += 1usize;
+    for (i, x) in numbers.iter_mut().enumerate() {
+        *x = list::read(desk, trace_store_book::sum(FROM, i), 0.0);
     }
     numbers
 }
 
-fn number_at(numbers: &[f32], i: usize) -> f32 {
-    if i < numbers.len() {
-        return numbers[i];
-    }
-    0.0
-}
-
-fn store(numbers: &mut [f32], i: usize, x: f32) {
-    if i < numbers.len() {
-        numbers[i] = x;
-    }
-}
-
 // the engine's globals are these
 pub fn set_globals(desk: &mut [f32], numbers: &[f32]) {
-    let mut i = 0usize;
-    while i < 128 {
-        store(desk, trace_store_book::sum(FROM, i), number_at(numbers, i));
-        i += 1usize;
+    for i in 0..128 {
+        if let Some(global) = desk.get_mut(trace_store_book::sum(FROM, i)) {
+            *global = list::read(numbers, i, 0.0);
+        }
     }
 }
 
@@ -74,10 +57,8 @@ fn placed(part: SignalPart, book: &[usize], i: usize) -> SignalPart {
 // the signals, once parts have moved
 pub fn moved(signals: Signals, book: &[usize]) -> Signals {
     let mut part = signals.part;
-    let mut i = 0usize;
-    while i < SOURCES {
-        part[i] = placed(part[i], book, i);
-        i += 1usize;
+    for (i, samples) in part.iter_mut().enumerate() {
+        *samples = placed(*samples, book, i);
     }
     Signals { part }
 }
@@ -93,21 +74,9 @@ fn freed(book: &mut [usize], pool: &mut [f32], i: usize) {
     );
 }
 
-fn failed(signals: Signals, code: u8) -> Bound {
-    Bound { code, signals }
-}
-
 // the line without its first word
 fn rest(line: &[u8]) -> &[u8] {
     trace_input_session::part(line, trace_input_session::place(line, 1), line.len())
-}
-
-// what samples that were made come to: `made` is 0 where there is room for them
-fn made_code(made: u8) -> u8 {
-    if made == 0 {
-        return 0;
-    }
-    POOL_FULL
 }
 
 // source i is bound to `len` numbers from `at` on
@@ -118,14 +87,14 @@ fn joined(
     len: usize,
     stride: usize,
     book: &mut [usize],
-) -> Bound {
+) -> Result<Signals, Refusal> {
     trace_store_names::set_place(book, trace_store_book::sum(SAMPLES_PARTS, i), at, len);
     engine::bind(moved(signals, book), i, at, len, stride)
 }
 
-// the samples of a line, behind the pool's parts
-fn made(line: &[u8], at: usize, pool: &mut [f32]) -> TableMade {
-    trace_store_names::make(rest(line), pool, at)
+// the samples of a line, behind the pool's parts: how many there are, where there is room
+fn made(line: &[u8], at: usize, pool: &mut [f32]) -> Result<usize, Limit> {
+    trace_store_names::make(rest(line), pool, at).map_err(|_| Limit::Numbers)
 }
 
 // source i is bound to the samples of a line
@@ -136,35 +105,31 @@ fn bound(
     line: &[u8],
     book: &mut [usize],
     pool: &mut [f32],
-) -> Bound {
+) -> Result<Signals, Stop> {
     freed(book, pool, i);
     let at = pool_top(book);
-    let m = made(line, at, pool);
-    let code = made_code(m.code);
-    if code != 0 {
-        return failed(signals, code);
-    }
-    joined(signals, i, at, m.len, stride, book)
+    let len = made(line, at, pool)?;
+    Ok(joined(signals, i, at, len, stride, book)?)
 }
 
 // `bind SOURCE STRIDE hex X ..` and `bind SOURCE STRIDE gen SEED LEN KIND`
-fn on_bind(signals: Signals, line: &[u8], book: &mut [usize], pool: &mut [f32]) -> Bound {
+fn on_bind(
+    signals: Signals,
+    line: &[u8],
+    book: &mut [usize],
+    pool: &mut [f32],
+) -> Result<Signals, Stop> {
     let w = trace_input_words::pair(line);
-    let code = engine::bind(signals, w.a, 0, 0, w.b).code;
-    if code != 0 {
-        return failed(signals, code);
-    }
+    engine::bind(signals, w.a, 0, 0, w.b)?;
     if SOURCES <= w.a {
-        return failed(signals, 0);
+        return Ok(signals);
     }
     bound(signals, w.a, w.b, line, book, pool)
 }
 
 fn free_all(book: &mut [usize], pool: &mut [f32]) {
-    let mut i = 0usize;
-    while i < SOURCES {
+    for i in 0..SOURCES {
         freed(book, pool, i);
-        i += 1usize;
     }
 }
 
@@ -175,14 +140,14 @@ fn on_unbind(
     n: usize,
     book: &mut [usize],
     pool: &mut [f32],
-) -> Bound {
+) -> Result<Signals, Refusal> {
     if n == 1 {
         free_all(book, pool);
-        return failed(engine::no_signals(), 0);
+        return Ok(engine::no_signals());
     }
     let i = trace_input_words::number_at(line, 1);
     if SOURCES <= i {
-        return failed(signals, 0);
+        return Ok(signals);
     }
     freed(book, pool, i);
     engine::bind(moved(signals, book), i, 0, 0, 0)
@@ -207,7 +172,7 @@ fn with_part(signals: Signals, i: usize, part: SignalPart) -> Signals {
 }
 
 // `signal_part SOURCE AT LEN STRIDE`
-fn on_part(signals: Signals, line: &[u8], book: &mut [usize], pool: &mut [f32]) -> Bound {
+fn on_part(signals: Signals, line: &[u8], book: &mut [usize], pool: &mut [f32]) -> Signals {
     let i = trace_input_words::number_at(line, 1);
     let part = SignalPart {
         at: place_at(line, 2, pool.len()),
@@ -215,7 +180,7 @@ fn on_part(signals: Signals, line: &[u8], book: &mut [usize], pool: &mut [f32]) 
         stride: trace_input_words::number_at(line, 4),
     };
     freed(book, pool, i);
-    failed(with_part(moved(signals, book), i, part), 0)
+    with_part(moved(signals, book), i, part)
 }
 
 // ---- lengths and print
@@ -246,19 +211,12 @@ fn on_memory_len(line: &[u8], book: &mut [usize]) {
     trace_store_book::set(book, 1326, n);
 }
 
-// the signals as they are, and other lengths
-fn lent(signals: Signals, line: &[u8], book: &mut [usize]) -> Bound {
-    on_memory_len(line, book);
-    failed(signals, 0)
-}
-
-// the signals as they are; number k of the book is the place in a list of the line's word 1
-fn chosen(signals: Signals, list: &[u8], k: usize, line: &[u8], book: &mut [usize]) -> Bound {
+// number k of the book is the place in a list of the line's word 1
+fn choose(list: &[u8], k: usize, line: &[u8], book: &mut [usize]) {
     trace_store_book::set(book, k, trace_input_words::index_at(list, line, 1));
-    failed(signals, 0)
 }
 
-// a line of n words about what calls are lent, and how outputs print
+// The signals after a line of n words about what calls are lent, and how outputs print.
 pub fn lending_line(
     signals: Signals,
     c: Lending,
@@ -266,19 +224,14 @@ pub fn lending_line(
     n: usize,
     book: &mut [usize],
     pool: &mut [f32],
-) -> Bound {
+) -> Result<Signals, Stop> {
     match c {
-        Lending::MemoryLen => lent(signals, line, book),
-        Lending::Print => chosen(
-            signals,
-            b"full hash cases none",
-            trace_store_book::PRINT,
-            line,
-            book,
-        ),
-        Lending::Canon => chosen(signals, b"0 1", trace_store_book::CANON, line, book),
-        Lending::Bind => on_bind(signals, line, book, pool),
-        Lending::Unbind => on_unbind(signals, line, n, book, pool),
-        Lending::SignalPart => on_part(signals, line, book, pool),
+        Lending::MemoryLen => on_memory_len(line, book),
+        Lending::Print => choose(b"full hash cases none", trace_store_book::PRINT, line, book),
+        Lending::Canon => choose(b"0 1", trace_store_book::CANON, line, book),
+        Lending::Bind => return on_bind(signals, line, book, pool),
+        Lending::Unbind => return Ok(on_unbind(signals, line, n, book, pool)?),
+        Lending::SignalPart => return Ok(on_part(signals, line, book, pool)),
     }
+    Ok(signals)
 }

@@ -1,10 +1,13 @@
 // Lines about the matrix: tables by name, slots, note curves.
 use crate::fields::{SlotLine, slot_line};
-use crate::{Changed, DESK, LONG_TABLES, MANY_TABLES, NO_ENTRY, NUMBERS, Preset};
+use crate::{DESK, NUMBERS};
 use curve_table::Curve;
-use matrix::{CurveSlot, Edited, NoteSlot};
+use matrix::{CurveSlot, NoteSlot};
+use refusal::Refusal;
 use state::Matrix;
 use trace_grammar::Editing;
+use trace_stops::{Fault, Limit, Stop};
+use trace_store_names::Unmade;
 
 // ---- tables by name
 
@@ -46,7 +49,7 @@ fn counted(book: &mut [usize], i: usize, len: usize) {
 }
 
 // the table that stands behind the numbers in use is named w: kept there, or copied over a table of that name and length
-fn kept(w: &[u8], len: usize, book: &mut [usize], numbers: &mut [f32]) -> u8 {
+fn kept(w: &[u8], len: usize, book: &mut [usize], numbers: &mut [f32]) -> Result<(), Limit> {
     let i = found(w, book);
     if is_same(book, i, len) {
         let at = trace_store_names::place(book, trace_store_book::sum(trace_store_book::NAMED, i));
@@ -56,75 +59,70 @@ fn kept(w: &[u8], len: usize, book: &mut [usize], numbers: &mut [f32]) -> u8 {
             at,
             len,
         );
-        return 0;
+        return Ok(());
     }
     if trace_store_book::TABLES_NAMED <= i {
-        return MANY_TABLES;
+        return Err(Limit::Tables);
     }
     if !trace_store_book::set_name(book, i, w) {
-        return MANY_TABLES;
+        return Err(Limit::Tables);
     }
     counted(book, i, len);
-    0
+    Ok(())
 }
 
-// what a table that was made comes to: `made` is 1 where an entry is not there, 2 where there is no room
-fn made_code(made: u8, end: usize) -> u8 {
-    if made == 1 {
-        return NO_ENTRY;
+// the length of a table that was made behind the numbers in use, where there is room for it
+fn length_of(made: Result<usize, Unmade>, used: usize) -> Result<usize, Stop> {
+    match made {
+        Ok(len) if trace_store_book::sum(used, len) <= NUMBERS => Ok(len),
+        Err(Unmade::NoEntry) => Err(Stop::Error(Fault::NoEntry)),
+        _ => Err(Stop::TooLarge(Limit::TableNumbers)),
     }
-    if made != 0 {
-        return LONG_TABLES;
-    }
-    if NUMBERS < end {
-        return LONG_TABLES;
-    }
-    0
 }
 
 // `table NAME SPEC`
-fn on_table(line: &[u8], book: &mut [usize], numbers: &mut [f32]) -> u8 {
+fn on_table(line: &[u8], book: &mut [usize], numbers: &mut [f32]) -> Result<(), Stop> {
     let used = trace_store_book::get(book, trace_store_book::USED);
-    let made = trace_store_names::make(line, numbers, used);
-    let code = made_code(made.code, trace_store_book::sum(used, made.len));
-    if code != 0 {
-        return code;
-    }
-    kept(trace_input_session::word(line, 1), made.len, book, numbers)
+    let len = length_of(trace_store_names::make(line, numbers, used), used)?;
+    kept(trace_input_session::word(line, 1), len, book, numbers)?;
+    Ok(())
 }
 
-// Which table a curve names: 0 none that there is, 1 the diagonal, else 2 more than the number of a table by name.
-pub fn named(w: &[u8], book: &[usize]) -> usize {
+// A table that a curve names: the diagonal, or one by its number.
+// No Option: the diagonal is a table too.
+#[derive(Clone, Copy)]
+pub enum Table {
+    Diagonal,
+    Named(usize),
+}
+
+// The table of a name, where there is one.
+pub fn named(w: &[u8], book: &[usize]) -> Option<Table> {
     if trace_input_session::is(w, b"diag") {
-        return 1;
+        return Some(Table::Diagonal);
     }
     let i = found(w, book);
     if i < trace_store_book::get(book, trace_store_book::COUNT) {
-        return trace_store_book::sum(i, 2);
+        return Some(Table::Named(i));
     }
-    0
+    None
 }
 
-fn table_of<'a>(numbers: &'a [f32], book: &[usize], table: usize) -> &'a [f32] {
+// table i by name
+fn table_of<'a>(numbers: &'a [f32], book: &[usize], i: usize) -> &'a [f32] {
     trace_store_names::table(
         numbers,
         book,
-        trace_store_book::sum(trace_store_book::NAMED, trace_store_book::less(table, 2)),
+        trace_store_book::sum(trace_store_book::NAMED, i),
     )
 }
 
-// the least number of two, where 0 is none
-fn least(a: u8, b: u8) -> u8 {
-    if a == 0 {
-        return b;
+// what two calls come to: refused by the lower row where both are
+fn lowest(a: Result<(), Refusal>, b: Result<(), Refusal>) -> Result<(), Refusal> {
+    match (a, b) {
+        (Err(x), Err(y)) => Err(if x.number() < y.number() { x } else { y }),
+        _ => a.and(b),
     }
-    if b == 0 {
-        return a;
-    }
-    if a < b {
-        return a;
-    }
-    b
 }
 
 // how many numbers of the matrix's tables are lent, of a desk of so many numbers
@@ -137,30 +135,33 @@ fn tables_lent(book: &[usize], desk: usize) -> usize {
     )
 }
 
-// the number by which setting a table is refused
-fn table_code(table: usize, book: &[usize], numbers: &[f32], desk: usize) -> u8 {
-    if table == 0 {
-        return 0;
-    }
-    if tables_lent(book, desk) < 66690 {
-        return least(14, judged(table, book, numbers));
-    }
-    judged(table, book, numbers)
+// whether setting a table is refused, where one is named
+fn judged(
+    named: Option<Table>,
+    book: &[usize],
+    numbers: &[f32],
+    desk: usize,
+) -> Result<(), Refusal> {
+    let Some(table) = named else {
+        return Ok(());
+    };
+    let alone = judged_alone(table, book, numbers);
+    let short = tables_lent(book, desk) < 66690;
+    lowest(refusal::when(short, Refusal::Memory), alone)
 }
 
-// the number by which a table by itself is refused
-fn judged(table: usize, book: &[usize], numbers: &[f32]) -> u8 {
-    if table < 2 {
-        return 0;
+// whether a table by itself is refused
+fn judged_alone(table: Table, book: &[usize], numbers: &[f32]) -> Result<(), Refusal> {
+    match table {
+        Table::Diagonal => Ok(()),
+        Table::Named(i) => {
+            curve::lookup(table_of(numbers, book, i), 0.0)?;
+            Ok(())
+        }
     }
-    curve::lookup(table_of(numbers, book, table), 0.0).code
 }
 
 // ---- slots
-
-fn edited(e: Edited) -> Matrix {
-    e.matrix
-}
 
 // the matrix with a slot's curve set to a table, where one is named
 fn curve_set(
@@ -173,9 +174,9 @@ fn curve_set(
 ) -> Matrix {
     match curve {
         Curve::Linear => m,
-        Curve::Table { rise, fall } => edited(matrix::set_curve(
-            m, tables, n, which, table, rise, fall,
-        )),
+        Curve::Table { rise, fall } => {
+            matrix::set_curve(m, tables, n, which, table, rise, fall).unwrap_or(m)
+        }
     }
 }
 
@@ -205,18 +206,14 @@ fn table_set(
     n: usize,
     which: CurveSlot,
     curve: Curve,
-    table: usize,
+    table: Option<Table>,
     book: &[usize],
     numbers: &[f32],
 ) -> Matrix {
-    if table < 2 {
-        return diagonal_set(m, desk, n, which, curve);
+    match table {
+        Some(Table::Named(i)) => { desk_set(m, desk, n, which, curve, table_of(numbers, book, i)) }
+        _ => diagonal_set(m, desk, n, which, curve),
     }
-    desk_set(m, desk, n, which, curve, table_of(numbers, book, table))
-}
-
-fn refused(m: Matrix, code: u8) -> Edited {
-    Edited { code, matrix: m }
 }
 
 // the tables of a slot's line, set
@@ -227,7 +224,7 @@ fn tables_set(
     book: &[usize],
     numbers: &[f32],
     desk: &mut [f32],
-) -> Edited {
+) -> Matrix {
     let slot = l.slot;
     let source_curve = slot.source_curve;
     let aux_curve = slot.aux_curve;
@@ -243,19 +240,24 @@ fn tables_set(
         book,
         numbers,
     );
-    let b = table_set(a, desk, n, aux, aux_curve, l.aux_table, book, numbers);
-    refused(b, 0)
+    table_set(a, desk, n, aux, aux_curve, l.aux_table, book, numbers)
 }
 
-// the number by which setting two tables is refused
-fn tables_code(a: usize, b: usize, book: &[usize], numbers: &[f32], desk: usize) -> u8 {
-    least(
-        table_code(a, book, numbers, desk),
-        table_code(b, book, numbers, desk),
+// whether setting two tables is refused
+fn both_judged(
+    a: Option<Table>,
+    b: Option<Table>,
+    book: &[usize],
+    numbers: &[f32],
+    desk: usize,
+) -> Result<(), Refusal> {
+    lowest(
+        judged(a, book, numbers, desk),
+        judged(b, book, numbers, desk),
     )
 }
 
-// the slot of a line and its tables, set or refused by the lowest number of its calls
+// the slot of a line and its tables, set or refused by the lowest row of its calls
 fn slot_set(
     m: Matrix,
     i: usize,
@@ -263,16 +265,12 @@ fn slot_set(
     book: &[usize],
     numbers: &[f32],
     desk: &mut [f32],
-) -> Edited {
+) -> Result<Matrix, Refusal> {
     let slot = l.slot;
     let set = matrix::set_slot(m, i, slot);
-    let code = tables_code(l.source_table, l.aux_table, book, numbers, desk.len());
-    let row = least(set.code, code);
-    if row != 0 {
-        return refused(m, row);
-    }
-    let next = set.matrix;
-    tables_set(next, i, l, book, numbers, desk)
+    let tables = both_judged(l.source_table, l.aux_table, book, numbers, desk.len());
+    lowest(set.map(|_| ()), tables)?;
+    Ok(tables_set(set?, i, l, book, numbers, desk))
 }
 
 // `slot N FIELD=VALUE ..`
@@ -283,12 +281,9 @@ fn on_slot(
     book: &[usize],
     numbers: &[f32],
     desk: &mut [f32],
-) -> Edited {
+) -> Result<Matrix, Refusal> {
     let i = trace_input_words::number_at(line, 1);
-    let code = matrix::slot(m, i).code;
-    if code != 0 {
-        return refused(m, code);
-    }
+    matrix::slot(m, i)?;
     slot_set(m, i, slot_line(line, n, book), book, numbers, desk)
 }
 
@@ -297,65 +292,68 @@ fn on_slot(
 fn note_set(
     m: Matrix,
     which: NoteSlot,
-    table: usize,
+    table: Option<usize>,
     book: &[usize],
     numbers: &[f32],
     desk: &mut [f32],
 ) -> Matrix {
-    if table < 2 {
+    let Some(i) = table else {
         return matrix::set_note_linear(m, which);
-    }
+    };
     if desk.len() < DESK {
         return m;
     }
-    edited(matrix::set_note_curve(m, &mut desk[DESK..], which, table_of(numbers, book, table)))
+    matrix::set_note_curve(m, &mut desk[DESK..], which, table_of(numbers, book, i)).unwrap_or(m)
 }
 
-// the number by which a note's table is refused
-fn note_code(table: usize, book: &[usize], numbers: &[f32], desk: usize) -> u8 {
-    if table < 2 {
-        return 0;
-    }
-    table_code(table, book, numbers, desk)
-}
-
-// What a note's line says: which tables its curves name, and two marks.
+// What a note's line says: the tables of its curves, none where they are linear, and two marks.
 #[derive(Clone, Copy)]
 struct NoteLine {
-    velocity: usize,
-    key: usize,
+    velocity: Option<usize>,
+    key: Option<usize>,
     glide: bool,
     legato: bool,
 }
 
+// the table that a note's word names; none at the diagonal, which is linear
+fn note_table(w: &[u8], book: &[usize]) -> Option<usize> {
+    match named(w, book) {
+        Some(Table::Named(i)) => Some(i),
+        _ => None,
+    }
+}
+
 fn note_line(line: &[u8], book: &[usize]) -> NoteLine {
     NoteLine {
-        velocity: named(trace_input_session::word(line, 1), book),
-        key: named(trace_input_session::word(line, 2), book),
+        velocity: note_table(trace_input_session::word(line, 1), book),
+        key: note_table(trace_input_session::word(line, 2), book),
         glide: trace_input_words::flag_at(line, 3),
         legato: trace_input_words::flag_at(line, 4),
     }
 }
 
-fn notes_set(m: Matrix, l: NoteLine, book: &[usize], numbers: &[f32], desk: &mut [f32]) -> Edited {
+fn notes_set(m: Matrix, l: NoteLine, book: &[usize], numbers: &[f32], desk: &mut [f32]) -> Matrix {
     let velocity = NoteSlot::Velocity;
     let key = NoteSlot::Key;
     let first = note_set(m, velocity, l.velocity, book, numbers, desk);
     let second = note_set(first, key, l.key, book, numbers, desk);
     let third = matrix::set_glide(second, l.glide);
-    refused(matrix::set_velocity_legato(third, l.legato), 0)
+    matrix::set_velocity_legato(third, l.legato)
 }
 
 // `note VELOCITY_TABLE KEY_TABLE GLIDE VELOCITY_LEGATO`
-fn on_note(m: Matrix, line: &[u8], book: &[usize], numbers: &[f32], desk: &mut [f32]) -> Edited {
+fn on_note(
+    m: Matrix,
+    line: &[u8],
+    book: &[usize],
+    numbers: &[f32],
+    desk: &mut [f32],
+) -> Result<Matrix, Refusal> {
     let l = note_line(line, book);
-    let a = note_code(l.velocity, book, numbers, desk.len());
-    let b = note_code(l.key, book, numbers, desk.len());
-    let code = least(a, b);
-    if code != 0 {
-        return refused(m, code);
-    }
-    notes_set(m, l, book, numbers, desk)
+    let velocity = l.velocity.map(|i| Table::Named(i));
+    let key = l.key.map(|i| Table::Named(i));
+    both_judged(velocity, key, book, numbers, desk.len())?;
+    Ok(notes_set(m, l, book, numbers, desk))
 }
 
 // ---- the host's own writing
@@ -374,25 +372,8 @@ fn on_matrix_put(line: &[u8], desk: &mut [f32]) {
     store(desk, at, trace_input_words::float_at(line, 3));
 }
 
-// the matrix as it is, after the host's own writing
-fn put(m: Matrix, line: &[u8], desk: &mut [f32]) -> Edited {
-    on_matrix_put(line, desk);
-    refused(m, 0)
-}
-
-fn with_matrix(p: Preset, e: Edited) -> Changed {
-    let matrix = e.matrix;
-    let mut preset = p;
-    preset.matrix = matrix;
-    Changed {
-        code: e.code,
-        a: 0,
-        b: 0,
-        preset,
-    }
-}
-
-fn edited_line(
+// The matrix after a line of n words about it and its tables.
+pub fn matrix_line(
     m: Matrix,
     c: Editing,
     line: &[u8],
@@ -400,27 +381,13 @@ fn edited_line(
     book: &mut [usize],
     numbers: &mut [f32],
     desk: &mut [f32],
-) -> Edited {
+) -> Result<Matrix, Stop> {
     match c {
-        Editing::Table => refused(m, on_table(line, book, numbers)),
-        Editing::Slot => on_slot(m, line, n, book, numbers, desk),
-        Editing::Note => on_note(m, line, book, numbers, desk),
-        Editing::Clear => refused(matrix::new(), 0),
-        Editing::MatrixPut => put(m, line, desk),
+        Editing::Table => on_table(line, book, numbers)?,
+        Editing::Slot => return Ok(on_slot(m, line, n, book, numbers, desk)?),
+        Editing::Note => return Ok(on_note(m, line, book, numbers, desk)?),
+        Editing::Clear => return Ok(matrix::new()),
+        Editing::MatrixPut => on_matrix_put(line, desk),
     }
-}
-
-// a line of n words about the matrix and its tables
-pub fn matrix_line(
-    p: Preset,
-    c: Editing,
-    line: &[u8],
-    n: usize,
-    book: &mut [usize],
-    numbers: &mut [f32],
-    desk: &mut [f32],
-) -> Changed {
-    let m = p.matrix;
-    let e = edited_line(m, c, line, n, book, numbers, desk);
-    with_matrix(p, e)
+    Ok(m)
 }

@@ -1,5 +1,5 @@
-// A session's lines about what a program is compiled from: the configuration, the registries, tables by name, slots and note curves. What they print is answered
-// as numbers.
+// A session's lines about what a program is compiled from: the configuration, the registries, tables by name, slots and
+// note curves.
 #![tactic(auto)]
 
 mod curves;
@@ -7,7 +7,7 @@ mod entries;
 mod fields;
 
 use config::Config;
-pub use curves::{matrix_line, named};
+pub use curves::{Table, matrix_line, named};
 pub use entries::registry_line;
 use state::{Destinations, Matrix, Sources};
 
@@ -20,29 +20,30 @@ pub struct Preset {
     pub matrix: Matrix,
 }
 
-// The preset after a line, with a row by which a call was refused or a number from 100 on, and what is printed.
+// What a line about the configuration and the registries answers.
 #[derive(Clone, Copy)]
-pub struct Changed {
-    pub code: u8,
-    pub a: usize,
-    pub b: usize,
-    pub preset: Preset,
+pub enum Answer {
+    // a lane's stride, and the most chunks of a block
+    Config { stride: usize, chunks: usize },
+    // the id of the new source
+    Source(usize),
+    // the id of the new destination
+    Dest(usize),
+    // the registries are empty
+    Cleared,
+    // the id of the source with a key, where there is one
+    Found(Option<usize>),
 }
 
-// A table's line that asks for an entry that is not there.
-pub const NO_ENTRY: u8 = 108;
-
-// More tables than there are places, or longer names.
-pub const MANY_TABLES: u8 = 110;
-
-// More numbers in named tables than there is room for.
-pub const LONG_TABLES: u8 = 111;
+// The preset after such a line, and its answer.
+#[derive(Clone, Copy)]
+pub struct Changed {
+    pub preset: Preset,
+    pub answer: Answer,
+}
 
 // How many numbers named tables may have.
 pub const NUMBERS: usize = 60000;
-
-// What `find` answers where there is none.
-pub const NONE: usize = 65536;
 
 // Where the matrix's tables begin in the desk; before them stand an engine's held memory, and its globals from 8192 on.
 pub const DESK: usize = 8320;
@@ -62,24 +63,6 @@ pub fn start() -> Preset {
         sources,
         dests,
         matrix,
-    }
-}
-
-fn failed(preset: Preset, code: u8) -> Changed {
-    Changed {
-        code,
-        a: 0,
-        b: 0,
-        preset,
-    }
-}
-
-fn done(preset: Preset, a: usize, b: usize) -> Changed {
-    Changed {
-        code: 0,
-        a,
-        b,
-        preset,
     }
 }
 

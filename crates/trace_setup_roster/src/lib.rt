@@ -1,100 +1,58 @@
 // The line `standard` (oracle/README.md, Setting up): the standard sources of its counts and audio keys, and the entries of a registry as text.
 #![tactic(auto)]
 
-ghost use Rattle.std.specs.Prelude.{◌≡◌, ◌+◌, ◌≤◌, length};
-
-use config::SOURCES;
-use source::{Counts, StandardMade};
+use source::Counts;
 use state::{Kind, Range, Scope, Source, Sources};
 use std::io::Stdout;
+use trace_stops::{Limit, Stop};
 
 // How many audio keys a line may have, and how many bytes they have in all.
 const KEYS: usize = 256;
 
 const BYTES: usize = 8192;
 
-// More keys, or longer ones, than there is room for.
-pub const MANY_KEYS: u8 = 116;
-
-// no room
-const FULL: usize = 65536;
-
 // ---- the audio keys of a line
 
-fn copy(bytes: &mut [u8], at: usize, key: &[u8])
-    requires { at + length key.now ≤ length bytes.old }
-{
-    let mut i = 0usize;
-    while i < key.len() {
-        bytes[at + i] = key[i];
-        i += 1usize;
+// a key behind the first `at` bytes: where it ends, where there is room
+fn put_key(bytes: &mut [u8], at: usize, key: &[u8]) -> Result<usize, Limit> {
+    if bytes.len() < at || bytes.len() - at < key.len() {
+        return Err(Limit::Keys);
     }
+    let end = at + key.len();
+    bytes[at..end].copy_from_slice(key);
+    Ok(end)
 }
 
-// a key behind the first `at` bytes: where it ends, or FULL
-fn put_key(bytes: &mut [u8], at: usize, key: &[u8]) -> usize {
-    if bytes.len() < at {
-        return FULL;
-    }
-    if bytes.len() - at < key.len() {
-        return FULL;
-    }
-    copy(bytes, at, key);
-    at + key.len()
-}
-
-fn put_length(lengths: &mut [usize], k: usize, n: usize) {
-    if k < lengths.len() {
-        lengths[k] = n;
-    }
-}
-
-// the n words from word 5 on, one after the other: where they end, or FULL
-fn put_keys(line: &[u8], n: usize, bytes: &mut [u8], lengths: &mut [usize]) -> usize {
+// the n words from word 5 on, one after the other: where they end, where there is room
+fn put_keys(
+    line: &[u8],
+    n: usize,
+    bytes: &mut [u8],
+    lengths: &mut [usize],
+) -> Result<usize, Limit> {
     let mut at = 0usize;
     let mut p = trace_input_session::place(line, 5);
-    let mut k = 0usize;
-    while k < n {
+    for length in lengths.iter_mut().take(n) {
         let key = trace_input_words::key(trace_input_session::word_at(line, p));
-        at = put_key(bytes, at, key);
-        put_length(lengths, k, key.len());
+        at = put_key(bytes, at, key)?;
+        *length = key.len();
         p = trace_input_session::next(line, p);
-        k += 1usize;
     }
-    at
+    Ok(at)
 }
 
 // ---- the sources
 
-fn refused(code: u8) -> StandardMade {
-    let sources = source::new();
-    StandardMade { code, sources }
-}
-
-// the first n lengths
-fn first(lengths: &[usize], n: usize) -> &[usize] {
-    if lengths.len() < n {
-        return &lengths[..0];
-    }
-    &lengths[0..n]
-}
-
 // with n audio keys
-fn made_with(counts: Counts, line: &[u8], n: usize) -> StandardMade {
+fn made_with(counts: Counts, line: &[u8], n: usize) -> Result<Sources, Stop> {
+    if KEYS < n {
+        return Err(Stop::TooLarge(Limit::Keys));
+    }
     let mut bytes = [0u8; BYTES];
     let mut lengths = [0usize; KEYS];
-    let end = put_keys(line, n, &mut bytes, &mut lengths);
-    if BYTES < end {
-        return refused(MANY_KEYS);
-    }
-    if KEYS < n {
-        return refused(MANY_KEYS);
-    }
-    source::standard(
-        counts,
-        trace_input_session::part(&bytes, 0, end),
-        first(&lengths, n),
-    )
+    let end = put_keys(line, n, &mut bytes, &mut lengths)?;
+    let keys = trace_input_session::part(&bytes, 0, end);
+    Ok(source::standard(counts, keys, &lengths[..n])?)
 }
 
 // how many words come after the first five
@@ -107,7 +65,7 @@ fn keys_of(line: &[u8]) -> usize {
 }
 
 // `standard ENVELOPES LFOS MACROS VALUES KEY ..`
-pub fn made(line: &[u8]) -> StandardMade {
+pub fn made(line: &[u8]) -> Result<Sources, Stop> {
     let counts = Counts {
         envelopes: trace_input_words::number_at(line, 1),
         lfos: trace_input_words::number_at(line, 2),
@@ -172,31 +130,12 @@ fn put_entry(stdout: Stdout, e: Source, i: usize, out: &mut [u8], at: usize) -> 
     put_range(stdout, range, out, p)
 }
 
-fn lesser(a: usize, b: usize) -> usize
-    ensures { result ≤ b }
-{
-    if a < b { a } else { b }
-}
-
-// the entries, and how many there is room for
-fn entries_of(sources: Sources) -> [Source; SOURCES]
-    ensures { length result ≡ 128 }
-{
-    let entries = sources.entry;
-    entries
-}
-
 // How many sources there are, and each of them.
 pub fn put(stdout: Stdout, sources: Sources, out: &mut [u8], at: usize) -> usize {
-    let n = lesser(sources.count, SOURCES);
-    let entries = entries_of(sources);
     let mut p = trace_output_show::whole_after(stdout, out, at, b"STANDARD ", sources.count as u64);
     p = trace_output_show::put(stdout, out, p, b"\n");
-    let mut i = 0usize;
-    while i < n {
-        let e = entries[i];
-        p = put_entry(stdout, e, i, out, p);
-        i += 1usize;
+    for (i, entry) in sources.entry.iter().enumerate().take(sources.count) {
+        p = put_entry(stdout, *entry, i, out, p);
     }
     p
 }

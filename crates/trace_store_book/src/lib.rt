@@ -28,7 +28,7 @@ pub const NAMED: usize = 159;
 
 pub const TABLES_NAMED: usize = 128;
 
-// ---- numbers after the entries
+// ---- numbers after the entries; kinds are numbers here, since the book is one lent memory of whole numbers (no heap)
 
 // The lengths that calls are lent: 0 all, 1 the need, 2 one less, else 3 more than a number.
 pub const LENT: usize = 1324;
@@ -95,10 +95,7 @@ pub const SIZE: usize = 10064;
 
 // number k; 0 past the end
 pub fn get(book: &[usize], k: usize) -> usize {
-    if k < book.len() {
-        return book[k];
-    }
-    0
+    book.get(k).copied().unwrap_or(0)
 }
 
 // number k is n
@@ -111,34 +108,20 @@ pub fn set(book: &mut [usize], k: usize, n: usize) {
 // ---- sums that do not stop
 
 pub fn sum(a: usize, b: usize) -> usize {
-    std::num::wrapping_add_u64(a as u64, b as u64) as usize
+    a.wrapping_add(b)
 }
 
 pub fn less(a: usize, b: usize) -> usize {
-    if b < a {
-        return a - b;
-    }
-    0
-}
-
-fn higher(a: usize, b: usize) -> usize {
-    if a < b {
-        return b;
-    }
-    a
+    a.saturating_sub(b)
 }
 
 pub fn at_most(n: usize, most: usize) -> usize
     ensures { result ≤ most }
 {
-    if n < most { n } else { most }
+    n.min(most)
 }
 
 // ---- names
-
-fn wide(b: u8) -> usize {
-    b as usize
-}
 
 // where a name's cell begins
 fn cell_at(cell: usize) -> usize {
@@ -150,50 +133,32 @@ fn cell_at(cell: usize) -> usize {
 
 // whether the numbers from `at` on are the bytes of a word
 fn has_bytes(book: &[usize], at: usize, w: &[u8]) -> bool {
-    let mut i = 0usize;
-    while i < w.len() {
-        if get(book, sum(at, i)) != wide(w[i]) {
-            return false;
-        }
-        i += 1usize;
-    }
-    true
+    w.iter()
+        .enumerate()
+        .all(|(i, &b)| get(book, sum(at, i)) == usize::from(b))
 }
 
 fn is_name(book: &[usize], cell: usize, w: &[u8]) -> bool {
     let at = cell_at(cell);
-    if get(book, at) != w.len() {
-        return false;
-    }
-    has_bytes(book, sum(at, 1), w)
+    get(book, at) == w.len() && has_bytes(book, sum(at, 1), w)
 }
 
 // the first of `count` cells from `first` on that has a name, counted from `first`; `count` where none has it
 pub fn name_found(book: &[usize], first: usize, count: usize, w: &[u8]) -> usize {
-    let mut i = 0usize;
-    while i < count {
-        if is_name(book, sum(first, i), w) {
-            return i;
-        }
-        i += 1usize;
-    }
-    count
+    (0..count)
+        .position(|i| is_name(book, sum(first, i), w))
+        .unwrap_or(count)
 }
 
 fn put_bytes(book: &mut [usize], at: usize, w: &[u8]) {
-    let mut i = 0usize;
-    while i < w.len() {
-        set(book, sum(at, i), wide(w[i]));
-        i += 1usize;
+    for (i, &b) in w.iter().enumerate() {
+        set(book, sum(at, i), usize::from(b));
     }
 }
 
 // the name of a cell is w; false where there is no such cell, or it is too small
 pub fn set_name(book: &mut [usize], cell: usize, w: &[u8]) -> bool {
-    if 136 <= cell {
-        return false;
-    }
-    if 63 < w.len() {
+    if 136 <= cell || 63 < w.len() {
         return false;
     }
     let at = cell_at(cell);
@@ -210,10 +175,8 @@ fn byte_of(n: usize) -> u8 {
 pub fn name_copied(book: &[usize], cell: usize, to: &mut [u8]) -> usize {
     let at = cell_at(cell);
     let n = at_most(get(book, at), to.len());
-    let mut i = 0usize;
-    while i < n {
-        to[i] = byte_of(get(book, sum(sum(at, 1), i)));
-        i += 1usize;
+    for (i, b) in to[..n].iter_mut().enumerate() {
+        *b = byte_of(get(book, sum(sum(at, 1), i)));
     }
     n
 }
@@ -287,31 +250,19 @@ fn end_of(book: &[usize], i: usize) -> usize {
 // where the free rest begins
 pub fn top(book: &[usize], first: usize, end: usize, base: usize) -> usize {
     let mut most = base;
-    let mut i = first;
-    while i < end {
-        most = higher(most, end_of(book, i));
-        i += 1usize;
+    for i in first..end {
+        most = most.max(end_of(book, i));
     }
     most
 }
 
 // whether entry i has numbers from `at` on
 fn has_at(book: &[usize], i: usize, at: usize) -> bool {
-    if trace_store_names::len(book, i) == 0 {
-        return false;
-    }
-    trace_store_names::place(book, i) == at
+    trace_store_names::len(book, i) != 0 && trace_store_names::place(book, i) == at
 }
 
 fn is_kept(book: &[usize], first: usize, end: usize, at: usize) -> bool {
-    let mut i = first;
-    while i < end {
-        if has_at(book, i, at) {
-            return true;
-        }
-        i += 1usize;
-    }
-    false
+    (first..end).any(|i| has_at(book, i, at))
 }
 
 fn lower(book: &mut [usize], i: usize, at: usize, n: usize) {
@@ -324,10 +275,8 @@ fn lower(book: &mut [usize], i: usize, at: usize, n: usize) {
 
 // the parts above `at` are n numbers lower
 fn lower_all(book: &mut [usize], first: usize, end: usize, at: usize, n: usize) {
-    let mut i = first;
-    while i < end {
+    for i in first..end {
         lower(book, i, at, n);
-        i += 1usize;
     }
 }
 
@@ -337,10 +286,7 @@ pub fn free(book: &mut [usize], numbers: &mut [f32], first: usize, end: usize, i
     let n = trace_store_names::len(book, i);
     let most = top(book, first, end, 0);
     trace_store_names::set_place(book, i, 0, 0);
-    if n == 0 {
-        return;
-    }
-    if is_kept(book, first, end, at) {
+    if n == 0 || is_kept(book, first, end, at) {
         return;
     }
     let from = sum(at, n);
@@ -348,24 +294,12 @@ pub fn free(book: &mut [usize], numbers: &mut [f32], first: usize, end: usize, i
     lower_all(book, first, end, at, n);
 }
 
-fn clear(numbers: &mut [f32]) {
-    let mut i = 0usize;
-    while i < numbers.len() {
-        numbers[i] = 0.0;
-        i += 1usize;
-    }
-}
-
 // n numbers from `at` on are 0; false where there are not so many
 fn cleared(numbers: &mut [f32], at: usize, n: usize) -> bool {
-    if numbers.len() < at {
+    if numbers.len() < at || numbers.len() - at < n {
         return false;
     }
-    if numbers.len() - at < n {
-        return false;
-    }
-    let e = at + n;
-    clear(&mut numbers[at..e]);
+    numbers[at..at + n].fill(0.0);
     true
 }
 
@@ -390,32 +324,19 @@ pub fn give(
 // ---- equal tables
 
 fn same_at(numbers: &[f32], a: usize, b: usize) -> bool {
-    if numbers.len() <= a {
-        return false;
+    match (numbers.get(a), numbers.get(b)) {
+        (Some(&x), Some(&y)) => hex_words::bits_of(x) == hex_words::bits_of(y),
+        _ => false,
     }
-    if numbers.len() <= b {
-        return false;
-    }
-    hex_words::bits_of(numbers[a]) == hex_words::bits_of(numbers[b])
 }
 
 // whether n numbers from a and from b on are equal
 fn same(numbers: &[f32], a: usize, b: usize, n: usize) -> bool {
-    let mut i = 0usize;
-    while i < n {
-        if !same_at(numbers, sum(a, i), sum(b, i)) {
-            return false;
-        }
-        i += 1usize;
-    }
-    true
+    (0..n).all(|i| same_at(numbers, sum(a, i), sum(b, i)))
 }
 
 fn is_equal(book: &[usize], numbers: &[f32], i: usize, at: usize, n: usize) -> bool {
-    if trace_store_names::len(book, i) != n {
-        return false;
-    }
-    same(numbers, trace_store_names::place(book, i), at, n)
+    trace_store_names::len(book, i) == n && same(numbers, trace_store_names::place(book, i), at, n)
 }
 
 // where, among the entries, n numbers stand that equal those from `at` on; `at` where nowhere
@@ -427,12 +348,7 @@ pub fn found(
     at: usize,
     n: usize,
 ) -> usize {
-    let mut i = first;
-    while i < end {
-        if is_equal(book, numbers, i, at, n) {
-            return trace_store_names::place(book, i);
-        }
-        i += 1usize;
-    }
-    at
+    (first..end)
+        .find(|&i| is_equal(book, numbers, i, at, n))
+        .map_or(at, |i| trace_store_names::place(book, i))
 }

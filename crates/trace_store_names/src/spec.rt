@@ -1,23 +1,23 @@
 // What a table's line stands for (oracle/README.md, Session format): its numbers, written from a place of the memory on.
-ghost use Rattle.std.specs.Prelude.{◌+◌, ◌<◌, ◌≤◌, length};
+ghost use Rattle.std.specs.Prelude.{◌≡◌, ◌<◌, length, IfOk};
 
-// How many numbers were made; `code` is 0, 1 where an entry is not there, 2 where there is no room.
+// Why a table was not made.
 #[derive(Clone, Copy)]
-pub struct TableMade {
-    pub code: u8,
-    pub len: usize,
+pub enum Unmade {
+    // an entry is not there
+    NoEntry,
+    // there is no room
+    NoRoom,
 }
 
-fn made(len: usize) -> TableMade {
-    TableMade { code: 0, len }
-}
-
-fn no_entry() -> TableMade {
-    TableMade { code: 1, len: 0 }
-}
-
-fn no_room() -> TableMade {
-    TableMade { code: 2, len: 0 }
+// the n numbers from `at` on
+fn room(numbers: &mut [f32], at: usize, n: usize) -> Result<&mut [f32], Unmade>
+    ensures { IfOk result (λ r. length r.now ≡ n) }
+{
+    if numbers.len() < n || numbers.len() - n < at {
+        return Err(Unmade::NoRoom);
+    }
+    Ok(&mut numbers[at..at + n])
 }
 
 // ---- formulas
@@ -37,10 +37,7 @@ fn over_512(i: usize) -> f32 {
 }
 
 fn reversed(i: usize) -> f32 {
-    if 512 < i {
-        return 0.0;
-    }
-    over_512(512 - i)
+    over_512(512usize.saturating_sub(i))
 }
 
 fn squared(i: usize) -> f32 {
@@ -57,34 +54,18 @@ fn point(shape: Shape, i: usize) -> f32 {
     }
 }
 
-fn fill_shape(numbers: &mut [f32], at: usize, n: usize, shape: Shape)
-    requires { at + n ≤ length numbers.old }
-{
-    let mut i = 0usize;
-    while i < n {
-        numbers[at + i] = point(shape, i);
-        i += 1usize;
+fn shaped(numbers: &mut [f32], at: usize, shape: Shape) -> Result<usize, Unmade> {
+    for (i, x) in room(numbers, at, 513)?.iter_mut().enumerate() {
+        *x = point(shape, i);
     }
-}
-
-fn shaped(numbers: &mut [f32], at: usize, shape: Shape) -> TableMade {
-    if numbers.len() < 513 {
-        return no_room();
-    }
-    if numbers.len() - 513 < at {
-        return no_room();
-    }
-    fill_shape(numbers, at, 513, shape);
-    made(513)
+    Ok(513)
 }
 
 // ---- the generator
 
 fn step(s: u64) -> u64 {
-    std::num::wrapping_add_u64(
-        draw::wrapping_mul(s, 6364136223846793005),
-        1442695040888963407,
-    )
+    s.wrapping_mul(6364136223846793005)
+        .wrapping_add(1442695040888963407)
 }
 
 fn special(k: u64) -> f32 {
@@ -117,106 +98,79 @@ fn raw(s: u64) -> f32 {
     hex_words::of_bits((s >> 32) as u32)
 }
 
-fn drawn_x(s: u64) -> f32 {
+// a special number in one of 32 draws, else x
+fn mixed(s: u64, x: f32) -> f32 {
     if is_special(s) {
-        return special((s >> 37) % 8);
+        special((s >> 37) % 8)
+    } else {
+        x
     }
-    unipolar(s)
-}
-
-fn drawn_y(s: u64) -> f32 {
-    if is_special(s) {
-        return special((s >> 37) % 8);
-    }
-    centred(s, 8388608.0)
 }
 
 // by the letter of the kind
 fn drawn(kind: u8, s: u64) -> f32 {
     match kind {
-        117 => unipolar(s),
-        98 => centred(s, 8388608.0),
-        116 => centred(s, 524288.0),
-        120 => drawn_x(s),
-        121 => drawn_y(s),
+        b'u' => unipolar(s),
+        b'b' => centred(s, 8388608.0),
+        b't' => centred(s, 524288.0),
+        b'x' => mixed(s, unipolar(s)),
+        b'y' => mixed(s, centred(s, 8388608.0)),
         _ => raw(s),
     }
 }
 
 // the letter of a kind
 fn kind_of(w: &[u8]) -> u8 {
-    if w.len() == 0 {
-        return 0;
-    }
-    w[0]
-}
-
-fn fill_drawn(numbers: &mut [f32], at: usize, n: usize, seed: u64, kind: u8)
-    requires { at + n ≤ length numbers.old }
-{
-    let mut s = seed;
-    let mut i = 0usize;
-    while i < n {
-        s = step(s);
-        numbers[at + i] = drawn(kind, s);
-        i += 1usize;
-    }
+    w.first().copied().unwrap_or(0)
 }
 
 // n numbers drawn
-fn generated(numbers: &mut [f32], at: usize, n: usize, seed: u64, kind: u8) -> TableMade {
-    if numbers.len() < n {
-        return no_room();
+fn generated(
+    numbers: &mut [f32],
+    at: usize,
+    n: usize,
+    seed: u64,
+    kind: u8,
+) -> Result<usize, Unmade> {
+    let mut s = seed;
+    for x in room(numbers, at, n)?.iter_mut() {
+        s = step(s);
+        *x = drawn(kind, s);
     }
-    if numbers.len() - n < at {
-        return no_room();
-    }
-    fill_drawn(numbers, at, n, seed, kind);
-    made(n)
+    Ok(n)
 }
 
 // ---- numbers one by one
 
-fn store(numbers: &mut [f32], at: usize, x: f32) {
-    if numbers.len() <= at {
-        return;
-    }
-    numbers[at] = x;
-}
-
 // the number that is the word at byte p
 fn float_at(line: &[u8], p: usize) -> f32 {
-    let x = trace_input_session::float(trace_input_session::word_at(line, p));
-    x.value
+    trace_input_session::float(trace_input_session::word_at(line, p)).unwrap_or(0.0)
 }
 
 // the whole number that is the word at byte p
 fn whole_at(line: &[u8], p: usize) -> u64 {
-    let n = trace_input_session::whole(trace_input_session::word_at(line, p));
-    n.value
+    trace_input_session::whole(trace_input_session::word_at(line, p)).unwrap_or(0)
 }
 
 // `n` words from byte `from` of the line on, each a number
-fn written(line: &[u8], from: usize, n: usize, numbers: &mut [f32], at: usize) -> TableMade {
-    if numbers.len() < n {
-        return no_room();
-    }
-    if numbers.len() - n < at {
-        return no_room();
-    }
+fn written(
+    line: &[u8],
+    from: usize,
+    n: usize,
+    numbers: &mut [f32],
+    at: usize,
+) -> Result<usize, Unmade> {
     let mut p = from;
-    let mut k = 0usize;
-    while k < n {
-        store(numbers, at + k, float_at(line, p));
+    for x in room(numbers, at, n)?.iter_mut() {
+        *x = float_at(line, p);
         p = trace_input_session::next(line, p);
-        k += 1usize;
     }
-    made(n)
+    Ok(n)
 }
 
 // ---- a line: each of these reads words from byte p on
 
-fn constant(line: &[u8], p: usize, numbers: &mut [f32], at: usize) -> TableMade {
+fn constant(line: &[u8], p: usize, numbers: &mut [f32], at: usize) -> Result<usize, Unmade> {
     let value = float_at(line, p);
     let shape = Shape::Step {
         at: 0,
@@ -226,7 +180,7 @@ fn constant(line: &[u8], p: usize, numbers: &mut [f32], at: usize) -> TableMade 
     shaped(numbers, at, shape)
 }
 
-fn stepped(line: &[u8], p: usize, numbers: &mut [f32], at: usize) -> TableMade {
+fn stepped(line: &[u8], p: usize, numbers: &mut [f32], at: usize) -> Result<usize, Unmade> {
     let q = trace_input_session::next(line, p);
     let shape = Shape::Step {
         at: whole_at(line, p) as usize,
@@ -237,7 +191,13 @@ fn stepped(line: &[u8], p: usize, numbers: &mut [f32], at: usize) -> TableMade {
 }
 
 // `SEED KIND` or `SEED LEN KIND`: two words or three
-fn drawn_by(line: &[u8], p: usize, words: usize, numbers: &mut [f32], at: usize) -> TableMade {
+fn drawn_by(
+    line: &[u8],
+    p: usize,
+    words: usize,
+    numbers: &mut [f32],
+    at: usize,
+) -> Result<usize, Unmade> {
     let seed = whole_at(line, p);
     let q = trace_input_session::next(line, p);
     if words == 2 {
@@ -254,7 +214,13 @@ fn drawn_by(line: &[u8], p: usize, words: usize, numbers: &mut [f32], at: usize)
 }
 
 // the table whose words begin at byte p, of which there are `more` after the first
-fn base(line: &[u8], p: usize, more: usize, numbers: &mut [f32], at: usize) -> TableMade {
+fn base(
+    line: &[u8],
+    p: usize,
+    more: usize,
+    numbers: &mut [f32],
+    at: usize,
+) -> Result<usize, Unmade> {
     let i = trace_input_session::index(
         b"lin rev sq const step gen",
         trace_input_session::word_at(line, p),
@@ -271,32 +237,34 @@ fn base(line: &[u8], p: usize, more: usize, numbers: &mut [f32], at: usize) -> T
     }
 }
 
+// where the words after the n from byte p on begin
+fn past_words(line: &[u8], from: usize, n: usize) -> usize {
+    let mut p = from;
+    for _ in 0..n {
+        p = trace_input_session::next(line, p);
+    }
+    p
+}
+
 // where the words after a change at byte p begin: `len N`, `put I X`; p where there is none
 fn past_change(line: &[u8], p: usize) -> usize {
     let i = trace_input_session::index(b"len put", trace_input_session::word_at(line, p));
-    if i == 0 {
-        return trace_input_session::next(line, trace_input_session::next(line, p));
+    match i {
+        0 => past_words(line, p, 2),
+        1 => past_words(line, p, 3),
+        _ => p,
     }
-    if i == 1 {
-        return trace_input_session::next(
-            line,
-            trace_input_session::next(line, trace_input_session::next(line, p)),
-        );
-    }
-    p
 }
 
 // where the first word from byte p on begins that begins no change
 fn base_at(line: &[u8], from: usize) -> usize {
     let mut p = from;
-    let mut left = line.len();
-    while 0 < left {
+    for _ in 0..line.len() {
         let q = past_change(line, p);
         if q <= p {
             return p;
         }
         p = q;
-        left -= 1usize;
     }
     p
 }
@@ -312,37 +280,27 @@ fn change_before(line: &[u8], p: usize) -> usize
     trace_input_session::back(line, q)
 }
 
-fn fill_rest(numbers: &mut [f32], at: usize, from: usize, to: usize, x: f32)
-    requires { at + to ≤ length numbers.old }
-{
-    let mut i = from;
-    while i < to {
-        numbers[at + i] = x;
-        i += 1usize;
-    }
-}
-
 // cut to n, or the last number repeated up to n
-fn resized(numbers: &mut [f32], at: usize, len: usize, n: usize) -> TableMade {
+fn resized(numbers: &mut [f32], at: usize, len: usize, n: usize) -> Result<usize, Unmade> {
     if len == 0 {
-        return no_entry();
+        return Err(Unmade::NoEntry);
     }
-    if numbers.len() < n {
-        return no_room();
+    let table = room(numbers, at, n)?;
+    if len < n {
+        let last = table[len - 1];
+        table[len..].fill(last);
     }
-    if numbers.len() - n < at {
-        return no_room();
-    }
-    if n <= len {
-        return made(n);
-    }
-    let last = numbers[at + (len - 1)];
-    fill_rest(numbers, at, len, n, last);
-    made(n)
+    Ok(n)
 }
 
 // the change at byte p
-fn changed(line: &[u8], p: usize, numbers: &mut [f32], at: usize, len: usize) -> TableMade {
+fn changed(
+    line: &[u8],
+    p: usize,
+    numbers: &mut [f32],
+    at: usize,
+    len: usize,
+) -> Result<usize, Unmade> {
     let q = trace_input_session::next(line, p);
     let i = whole_at(line, q) as usize;
     if trace_input_session::is(trace_input_session::word_at(line, p), b"len") {
@@ -357,42 +315,32 @@ fn changed(line: &[u8], p: usize, numbers: &mut [f32], at: usize, len: usize) ->
     )
 }
 
-fn replaced(numbers: &mut [f32], at: usize, len: usize, i: usize, x: f32) -> TableMade {
+fn replaced(numbers: &mut [f32], at: usize, len: usize, i: usize, x: f32) -> Result<usize, Unmade> {
     if len <= i {
-        return no_entry();
+        return Err(Unmade::NoEntry);
     }
-    if numbers.len() <= i {
-        return no_room();
-    }
-    if numbers.len() - i <= at {
-        return no_room();
+    if numbers.len() <= i || numbers.len() - i <= at {
+        return Err(Unmade::NoRoom);
     }
     numbers[at + i] = x;
-    made(len)
+    Ok(len)
 }
 
 // how many words of a line begin after byte p, the one there left out
 fn words_after(line: &[u8], p: usize) -> usize {
-    let n = trace_input_session::count(trace_input_session::part(line, p, line.len()));
-    if n == 0 {
-        return 0;
-    }
-    n - 1
+    trace_input_session::count(trace_input_session::part(line, p, line.len())).saturating_sub(1)
 }
 
-// the table of a line from its word 2 on, its numbers from `at` on: its last words are the table, the changes before them are applied from the last to the
-// first
-pub fn make(line: &[u8], numbers: &mut [f32], at: usize) -> TableMade {
+// the table of a line from its word 2 on, its numbers from `at` on, and how many there are: its last words are the table,
+// the changes before them are applied from the last to the first
+pub fn make(line: &[u8], numbers: &mut [f32], at: usize) -> Result<usize, Unmade> {
     let from = trace_input_session::place(line, 2);
     let mut end = base_at(line, from);
-    let mut t = base(line, end, words_after(line, end), numbers, at);
+    let mut len = base(line, end, words_after(line, end), numbers, at)?;
+    // Not a for: the step is a word, from the last back.
     while from < end {
-        if t.code != 0 {
-            return t;
-        }
         end = change_before(line, end);
-        let next = changed(line, end, numbers, at, t.len);
-        t = next;
+        len = changed(line, end, numbers, at, len)?;
     }
-    t
+    Ok(len)
 }

@@ -4,10 +4,8 @@
 use std::io::Stdout;
 use trace_store_book::{BARE, INSTALLED, OUTSIDE, PROGRAMS, TITLE_CELLS, TITLES};
 
-// More programs than there are places, or longer names.
-pub const MANY_PROGRAMS: u8 = 113;
-
-// the number of the program with a name; one more than there are where there is none
+// the number of the program with a name; one more than there are where there is none, which is that of a new one (an
+// Option would be no plainer: `made` goes on from there)
 pub fn number(book: &[usize], w: &[u8]) -> usize {
     if trace_input_session::is(w, b"~") {
         return 0;
@@ -25,10 +23,9 @@ pub fn made(book: &mut [usize], w: &[u8]) -> usize {
     if i <= count {
         return i;
     }
-    if PROGRAMS <= i {
-        return PROGRAMS;
-    }
-    if !trace_store_book::set_name(book, trace_store_book::sum(TITLE_CELLS, count), w) {
+    if PROGRAMS <= i
+        || !trace_store_book::set_name(book, trace_store_book::sum(TITLE_CELLS, count), w)
+    {
         return PROGRAMS;
     }
     trace_store_book::set(book, TITLES, i);
@@ -37,27 +34,20 @@ pub fn made(book: &mut [usize], w: &[u8]) -> usize {
 
 // whether a program of that number is outside an engine
 pub fn is_outside(book: &[usize], i: usize) -> bool {
-    if PROGRAMS <= i {
-        return false;
-    }
-    trace_store_book::get(book, trace_store_book::sum(OUTSIDE, i)) == 1
+    i < PROGRAMS && trace_store_book::get(book, trace_store_book::sum(OUTSIDE, i)) == 1
 }
 
 // the number of the installed program by its name
 pub fn installed(book: &[usize]) -> usize {
-    let i = trace_store_book::get(book, INSTALLED);
-    if i == BARE {
-        return 0;
+    match trace_store_book::get(book, INSTALLED) {
+        BARE => 0,
+        i => i,
     }
-    i
 }
 
 // whether the program of a number is called ~
 fn is_own(i: usize) -> bool {
-    if i == 0 {
-        return true;
-    }
-    PROGRAMS <= i
+    i == 0 || PROGRAMS <= i
 }
 
 // the name of program i, into the start of a cell; how long it is
@@ -73,10 +63,10 @@ pub fn copied(book: &[usize], i: usize, cell: &mut [u8]) -> usize {
 }
 
 fn own(cell: &mut [u8]) -> usize {
-    if cell.len() == 0 {
+    if cell.is_empty() {
         return 0;
     }
-    cell[0] = 126;
+    cell[0] = b'~';
     1
 }
 

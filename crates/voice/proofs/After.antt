@@ -9,9 +9,8 @@ use native.Mathlib.Omega.{arith}
 use lib.ListN.{get_or, set, get_or-replicate}
 use lib.Seq.{get_or-set_same, get_or-set_other}
 use borrow.Author.Tests.{lt-ltb, le-ltb}
+use Rattle.std.specs.Prelude.{Option, Some}
 use Rattle.config.specs.Sizes.{most_voices}
-use Rattle.voice.specs.declared.Newest.{Newest}
-use Rattle.voice.specs.declared.Newest.TheVariants.{Voice}
 use Rattle.voice.specs.Voices.{rank_of, no_voices, ranks_on, sounded_on, released_of, ended_of}
 use Rattle.voice.specs.Sounded.{stamp, ranks_after, Later, Latest, none, one, Note, on, off, ended, voices_after, note_ons}
 use Rattle.voice.proofs.Ranks.{ranks-after, lower-later, stamp-same, stamp-other, stamp-apart}
@@ -60,7 +59,7 @@ active-sounded (ended v ∷ l) u h t = elim (dec_lt v most_voices) [
 ]
 
 -- THE NEWEST SOUNDED LAST: of the active voices it has the highest of the Rust's numbers; and where there is none, no voice is active
-pub newest-last : (l : List Note) (w : ℕ) → (voices_after l).newest ≡ Voice w
+pub newest-last : (l : List Note) (w : ℕ) → (voices_after l).newest ≡ Some w
     → (get_or (voices_after l).active w false ≡ true)
     × ((u : ℕ) → u < most_voices → get_or (voices_after l).active u false ≡ true → u ≢ w → stamp (note_ons l) u < stamp (note_ons l) w)
 newest-last l w e = go (voices_after l).newest e (right-after l).newest
@@ -79,7 +78,7 @@ newest-last l w e = go (voices_after l).newest e (right-after l).newest
         pick (inl q) = q
         pick (inr q) = absurd (ne (sym (stamp-apart (note_ons l) x u (active-sounded l x i t) q.0)))
 
-    go : (n : Newest) → n ≡ Voice w → Latest (voices_after l).active (voices_after l).rank most_voices n
+    go : (n : Option ℕ) → n ≡ Some w → Latest (voices_after l).active (voices_after l).rank most_voices n
         → (get_or (voices_after l).active w false ≡ true)
         × ((u : ℕ) → u < most_voices → get_or (voices_after l).active u false ≡ true → u ≢ w → stamp (note_ons l) u < stamp (note_ons l) w)
     go n q (none f) = absurd (let z : ◌≡◌ {A = ℕ} 0 1 = cc in omega arith)

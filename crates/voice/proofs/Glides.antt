@@ -1,13 +1,12 @@
 -- What glides do (document 01, Chunk and value; engine.rs 701-754). Assumes nothing.
-use mathlib.Core.Path.{◌≡◌, refl}
+use mathlib.Core.Path.{◌≡◌, refl, ap}
 use mathlib.Core.Bool.{Bool, true, false, cond, ◌&&◌, ◌||◌}
 use mathlib.Core.List.{List, [], ◌∷◌}
-use Prim.Native.Nat.{ℕ, ◌+◌, ◌≤◌, ◌<◌}
-use native.Mathlib.Numerals.{add-one}
+use Prim.Native.Nat.{ℕ}
 use native.Mathlib.Omega.{arith}
 use lib.Ieee.{Float, le}
-use lib.ListN.{length, get_or, drop, drop_of_length-le}
-use lib.Seq.{drop-cons}
+use lib.ListN.{length}
+use Rattle.std.specs.List.{list_any}
 use Rattle.number.specs.Number.{zero32, times, nearest32}
 use Rattle.voice.specs.declared.Glide.{Glide}
 use Rattle.voice.specs.declared.Legato.{Legato}
@@ -90,16 +89,8 @@ unfolding advanced
 advanced-still s frames e h =
     rw (still-values (nearest32 frames) s.value s.glide e h, still-glides (nearest32 frames) s.value s.glide e h)
 
--- a turn of the search for a glide that moves
-module _ (gs : List Glide) (v : ℕ) (d : Glide) where
-  pub moving-here : v < length gs → moving (get_or gs v d) ≡ true → any_moving (drop v gs) ≡ true
-  unfolding any_moving
-  moving-here h t = rw (drop-cons gs v d, t)
-
-  pub moving-next : v < length gs → moving (get_or gs v d) ≡ false → any_moving (drop v gs) ≡ any_moving (drop (v + 1) gs)
-  unfolding any_moving
-  moving-next h t = rw (add-one, drop-cons gs v d, t)
-
-  pub moving-end : length gs ≤ v → any_moving (drop v gs) ≡ false
-  unfolding any_moving
-  moving-end h = rw (drop_of_length-le gs h)
+-- a search for a glide that moves
+pub any_moving_any : (gs : List Glide) → list_any moving gs ≡ any_moving gs
+unfolding any_moving
+any_moving_any [] = refl
+any_moving_any (g ∷ gs) = ap (λ r. moving g || r) (any_moving_any gs)

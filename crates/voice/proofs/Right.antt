@@ -10,9 +10,8 @@ use lib.Dec.{eqb}
 use lib.ListN.{get_or, set, length-set, get_or-replicate}
 use lib.Seq.{get_or-set_same, get_or-set_other}
 use borrow.Author.Tests.{lt-ltb, le-ltb, eq-eqb}
+use Rattle.std.specs.Prelude.{Option, Some}
 use Rattle.config.specs.Sizes.{most_voices}
-use Rattle.voice.specs.declared.Newest.{Newest}
-use Rattle.voice.specs.declared.Newest.TheVariants.{Voice}
 use Rattle.voice.specs.declared.Voices.{Voices}
 use Rattle.voice.specs.Voices.{rank_of, latest, later, is_voice, newest_after, no_voices, sounded_on, released_of, ended_of}
 use Rattle.voice.specs.Sounded.{Ranks, Latest, none, one, Note, on, off, ended, noted, voices_after, Right}
@@ -28,13 +27,13 @@ clash b p q = let z : ◌≡◌ {A = ℕ} 0 1 = cc in omega arith
 
 module _ (active : List Bool) (rank : List ℕ) where
   -- one voice more, not active
-  latest-off : (n : ℕ) (w : Newest) → get_or active n false ≡ false → Latest active rank n w → Latest active rank (suc n) w
+  latest-off : (n : ℕ) (w : Option ℕ) → get_or active n false ≡ false → Latest active rank n w → Latest active rank (suc n) w
   latest-off n w e (none f) = none (λ u h. elim (ℕ_discrete u n) [ yes p ↦ rw p e | no ne ↦ f u (omega arith) ])
   latest-off n w e (one {w = x} h t f) =
       one {w = x} (omega arith) t (λ u i s. elim (ℕ_discrete u n) [ yes p ↦ absurd (clash (get_or active n false) (rw p at s) e) | no ne ↦ f u (omega arith) s ])
 
   -- one voice more, active
-  latest-on : (n : ℕ) (w : Newest) → get_or active n false ≡ true → Latest active rank n w → Latest active rank (suc n) (later rank n w)
+  latest-on : (n : ℕ) (w : Option ℕ) → get_or active n false ≡ true → Latest active rank n w → Latest active rank (suc n) (later rank n w)
   latest-on n w e (none f) =
       one {w = n} (omega arith) e (λ u i s. elim (ℕ_discrete u n) [ yes p ↦ rw p (omega arith) | no ne ↦ absurd (clash (get_or active u false) s (f u (omega arith))) ])
   latest-on n w e (one {w = x} h t f) = elim (dec_lt (rank_of rank n) (rank_of rank x)) [
@@ -54,11 +53,11 @@ module _ (active : List Bool) (rank : List ℕ) where
       go (inr e) ih = rw e (latest-off n (latest active rank n) e ih)
 
   -- AND NOTHING ELSE IS IT
-  pub latest-only : Ranks rank → (x y : Newest) → Latest active rank most_voices x → Latest active rank most_voices y → x ≡ y
+  pub latest-only : Ranks rank → (x y : Option ℕ) → Latest active rank most_voices x → Latest active rank most_voices y → x ≡ y
   latest-only r x y (none f) (none g) = refl
   latest-only r x y (none f) (one {w = w} h t g) = absurd (clash (get_or active w false) t (f w h))
   latest-only r x y (one {w = w} h t g) (none f) = absurd (clash (get_or active w false) t (f w h))
-  latest-only r x y (one {w = w} h t f) (one {w = z} i s g) = ap Voice (r.apart w z h i (omega (arith, f z i s, g w h t)))
+  latest-only r x y (one {w = w} h t f) (one {w = z} i s g) = ap Some (r.apart w z h i (omega (arith, f z i s, g w h t)))
 
 -- ---- every call keeps it
 
@@ -85,7 +84,7 @@ module _ (s : Voices) (r : Right s) (v : ℕ) where
       let ne : u ≢ v = λ e. clash (get_or (set s.active v false) v false) (rw e at t) (get_or-set_same s.active v false false (omega (arith, r.long))) in
       (sym (get_or-set_other s.active v u false false ne) ∙ t, ne)
 
-  newest-stays : (w : Newest) → is_voice w v ≡ false → v < most_voices → Latest s.active s.rank most_voices w → Latest (set s.active v false) s.rank most_voices w
+  newest-stays : (w : Option ℕ) → is_voice w v ≡ false → v < most_voices → Latest s.active s.rank most_voices w → Latest (set s.active v false) s.rank most_voices w
   newest-stays w e h (none f) = none (λ u i. off-still u i (which (get_or (set s.active v false) u false)))
     where
       off-still : (u : ℕ) → u < most_voices → (get_or (set s.active v false) u false ≡ true) ⊎ (get_or (set s.active v false) u false ≡ false)

@@ -1,10 +1,9 @@
 -- The definitions, computed.
-use Rattle.std.specs.Prelude.{◌≡◌, refl, true, false, [], ◌∷◌, pos, negsuc, Float, take}
+use Rattle.std.specs.Prelude.{◌≡◌, refl, true, false, [], ◌∷◌, pos, negsuc, Float, take, Some, None}
 use Rattle.std.specs.Float.{nan, inf, fin}
 use Rattle.std.specs.Float.Ieee.{lt, le, eq, ne, add, sub, mul, div, of_int}
 use Rattle.number.specs.Number.{zero32, half32, one32, two32, abs_of}
 use Rattle.voice.specs.declared.Legato.TheVariants as L
-use Rattle.voice.specs.declared.Newest.TheVariants.{Nobody, Voice}
 use Rattle.voice.specs.declared.Voices.{Voices}
 use Rattle.voice.specs.declared.Marks.{Marks}
 use Rattle.voice.specs.declared.Notes.{Notes}
@@ -37,10 +36,10 @@ numbered = (refl, refl, refl, refl, refl)
 
 -- the newest ends: the one that sounded before it, not the lowest active; another ends: the newest stays; all end:
 -- nobody
-newest : ((ended_of sounded 7).newest ≡ Voice 5) × ((ended_of sounded 5).newest ≡ Voice 7)
-    × ((ended_of (ended_of sounded 5) 7).newest ≡ Voice 2)
-    × ((ended_of (ended_of (ended_of sounded 5) 7) 2).newest ≡ Nobody)
-    × ((released_of sounded 7).newest ≡ Voice 7)
+newest : ((ended_of sounded 7).newest ≡ Some 5) × ((ended_of sounded 5).newest ≡ Some 7)
+    × ((ended_of (ended_of sounded 5) 7).newest ≡ Some 2)
+    × ((ended_of (ended_of (ended_of sounded 5) 7) 2).newest ≡ None)
+    × ((released_of sounded 7).newest ≡ Some 7)
 unfolding ended_of newest_after released_of sounded sounded_on ranks_on no_voices
 newest = (refl, refl, refl, refl, refl)
 

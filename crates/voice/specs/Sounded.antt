@@ -1,10 +1,9 @@
 -- What ranks say: in which order the voices sounded last, as the Rust's numbers have it (engine.rs 457-458, 515-519).
 -- Definitions only; proofs/Ranks.antt, Since.antt, Right.antt and After.antt have the theorems.
 use Rattle.std.specs.Prelude.{◌≡◌, Bool, true, false, cond, ◌⊎◌, List, [], ◌∷◌, ℕ, zero, suc, ◌+◌, ◌≤◌, ◌<◌, eqb, ltb}
+use Rattle.std.specs.Prelude.{Option, Some, None}
 use Rattle.std.specs.Prelude.{length, get_or}
 use Rattle.config.specs.Sizes.{most_voices}
-use Rattle.voice.specs.declared.Newest.{Newest}
-use Rattle.voice.specs.declared.Newest.TheVariants.{Nobody, Voice}
 use Rattle.voice.specs.declared.Voices.{Voices}
 use Rattle.voice.specs.Voices.{rank_of, no_voices, ranks_on, sounded_on, released_of, ended_of}
 
@@ -52,11 +51,11 @@ pub record Ranks (rank : List ℕ) : Type 0 where
 -- ---- the newest
 
 -- of the first n voices the active one of the lowest rank, or nobody where none is active
-pub data Latest (active : List Bool) (rank : List ℕ) (n : ℕ) : Newest → Type 0 where
-  none : ((u : ℕ) → u < n → get_or active u false ≡ false) → Latest active rank n Nobody
+pub data Latest (active : List Bool) (rank : List ℕ) (n : ℕ) : Option ℕ → Type 0 where
+  none : ((u : ℕ) → u < n → get_or active u false ≡ false) → Latest active rank n None
   one : {w : ℕ} → w < n → get_or active w false ≡ true
       → ((u : ℕ) → u < n → get_or active u false ≡ true → rank_of rank w ≤ rank_of rank u)
-      → Latest active rank n (Voice w)
+      → Latest active rank n (Some w)
 
 -- ---- calls
 

@@ -3,10 +3,9 @@
 -- number of voices that sounded since: such ranks never run out, and order the voices as the Rust's numbers do
 -- (proofs/Ranks.antt).
 use Rattle.std.specs.Prelude.{Bool, true, false, cond, List, [], ◌∷◌, map, ℕ, zero, suc, ◌+◌, eqb, ltb, get_or, set}
+use Rattle.std.specs.Prelude.{Option, Some, None}
 use Rattle.std.specs.Prelude.{take, replicate}
 use Rattle.config.specs.Sizes.{most_voices}
-use Rattle.voice.specs.declared.Newest.{Newest}
-use Rattle.voice.specs.declared.Newest.TheVariants.{Nobody, Voice}
 use Rattle.voice.specs.declared.Voices.{Voices}
 
 -- ---- before any note
@@ -18,7 +17,7 @@ up_from k (suc n) = k ∷ up_from (suc k) n
 
 -- nobody sounds; voices that have not sounded rank by their numbers (engine.rs 291, 296-298)
 unfoldable pub no_voices : Voices
-no_voices = record { active = replicate most_voices false; rank = up_from 0 most_voices; newest = Nobody }
+no_voices = record { active = replicate most_voices false; rank = up_from 0 most_voices; newest = None }
 
 -- ---- a note starts
 
@@ -37,7 +36,7 @@ ranks_on rank v = set (map (raised (rank_of rank v)) rank) v 0
 unfoldable pub sounded_on : Voices → ℕ → Voices
 sounded_on s v =
     cond (ltb v most_voices)
-    (record { active = set s.active v true; rank = ranks_on s.rank v; newest = Voice v })
+    (record { active = set s.active v true; rank = ranks_on s.rank v; newest = Some v })
     s
 
 -- ---- a note is released: active marks, ranks and newest stay (engine.rs 490-498)
@@ -48,22 +47,22 @@ released_of s v = s
 -- ---- a voice has ended
 
 -- of v and the newest of those looked at before it, the one of lower rank
-abbrev pub later : List ℕ → ℕ → Newest → Newest
-later rank v Nobody = Voice v
-later rank v (Voice w) = cond (ltb (rank_of rank v) (rank_of rank w)) (Voice v) (Voice w)
+abbrev pub later : List ℕ → ℕ → Option ℕ → Option ℕ
+later rank v None = Some v
+later rank v (Some w) = cond (ltb (rank_of rank v) (rank_of rank w)) (Some v) (Some w)
 
 -- of the first n voices the active one of the lowest rank, or nobody
-abbrev pub latest : List Bool → List ℕ → ℕ → Newest
-latest active rank zero = Nobody
+abbrev pub latest : List Bool → List ℕ → ℕ → Option ℕ
+latest active rank zero = None
 latest active rank (suc n) =
     let before = latest active rank n in cond (get_or active n false) (later rank n before) before
 
-abbrev pub is_voice : Newest → ℕ → Bool
-is_voice Nobody v = false
-is_voice (Voice w) v = eqb w v
+abbrev pub is_voice : Option ℕ → ℕ → Bool
+is_voice None v = false
+is_voice (Some w) v = eqb w v
 
 -- where v was the newest, the active voice that sounded last is; else the newest stays (engine.rs 515-519)
-unfoldable pub newest_after : Newest → ℕ → List Bool → List ℕ → Newest
+unfoldable pub newest_after : Option ℕ → ℕ → List Bool → List ℕ → Option ℕ
 newest_after newest v active rank = cond (is_voice newest v) (latest active rank most_voices) newest
 
 -- v is not active, and ranks stay (engine.rs 506, 515-519)

@@ -16,18 +16,12 @@ use config::VOICES;
 
 // ---- voices
 
-#[derive(Clone, Copy)]
-pub enum Newest {
-    Nobody,
-    Voice(usize),
-}
-
-// Which voices sound, and how many sounded since each: the newest has rank 0.
+// Which voices sound, which sounded last, and how many sounded since each: the newest has rank 0.
 #[derive(Clone, Copy)]
 pub struct Voices {
     pub active: [bool; VOICES],
     pub rank: [u8; VOICES],
-    pub newest: Newest,
+    pub newest: Option<usize>,
 }
 
 // 0, 1, .., the ranks before any note
@@ -35,10 +29,8 @@ fn first_ranks() -> [u8; VOICES]
     ensures { result ≡ up_from 0 most_voices }
 {
     let mut out = [0u8; VOICES];
-    let mut k = 0usize;
-    while k < VOICES {
+    for k in 0..VOICES {
         out[k] = k as u8;
-        k += 1;
     }
     out
 }
@@ -55,11 +47,8 @@ fn raised_ranks(rank: [u8; VOICES], limit: u8) -> [u8; VOICES]
     ensures { result ≡ map (raised limit) rank }
 {
     let mut out = rank;
-    let mut k = 0usize;
-    while k < VOICES {
-        let x = out[k];
-        out[k] = raised_rank(x, limit);
-        k += 1;
+    for x in out.iter_mut() {
+        *x = raised_rank(*x, limit);
     }
     out
 }
@@ -68,30 +57,27 @@ fn raised_ranks(rank: [u8; VOICES], limit: u8) -> [u8; VOICES]
 fn rank_of(rank: [u8; VOICES], voice: usize) -> u8
     ensures { result ≡ rank_of rank voice }
 {
-    if voice < VOICES {
-        return rank[voice];
-    }
-    0
+    rank.get(voice).copied().unwrap_or(0)
 }
 
 // of a voice and the newest of those looked at before it, the one that sounded last
-fn later(newest: Newest, voice: usize, rank: [u8; VOICES]) -> Newest
+fn later(newest: Option<usize>, voice: usize, rank: [u8; VOICES]) -> Option<usize>
     ensures { result ≡ later rank voice newest }
 {
     match newest {
-        Newest::Nobody => Newest::Voice(voice),
-        Newest::Voice(w) => {
+        None => Some(voice),
+        Some(w) => {
             if rank_of(rank, voice) < rank_of(rank, w) {
-                Newest::Voice(voice)
+                Some(voice)
             } else {
-                Newest::Voice(w)
+                Some(w)
             }
         }
     }
 }
 
 // the newest of those looked at, once a voice was looked at
-fn latest_with(on: bool, newest: Newest, voice: usize, rank: [u8; VOICES]) -> Newest
+fn latest_with(on: bool, newest: Option<usize>, voice: usize, rank: [u8; VOICES]) -> Option<usize>
     ensures { result ≡ cond on (later rank voice newest) newest }
 {
     if on {
@@ -101,31 +87,33 @@ fn latest_with(on: bool, newest: Newest, voice: usize, rank: [u8; VOICES]) -> Ne
 }
 
 // the active voice that sounded last
-fn latest(active: [bool; VOICES], rank: [u8; VOICES]) -> Newest
+fn latest(active: [bool; VOICES], rank: [u8; VOICES]) -> Option<usize>
     ensures { result ≡ latest active rank most_voices }
 {
-    let mut newest = Newest::Nobody;
-    let mut v = 0usize;
-    while v < VOICES {
-        let next = latest_with(active[v], newest, v, rank);
-        newest = next;
-        v += 1;
+    let mut newest = None;
+    for v in 0..VOICES {
+        newest = latest_with(active[v], newest, v, rank);
     }
     newest
 }
 
 // whether the newest is this voice
-fn is_voice(newest: Newest, voice: usize) -> bool
+fn is_voice(newest: Option<usize>, voice: usize) -> bool
     ensures { result ≡ is_voice newest voice }
 {
     match newest {
-        Newest::Nobody => false,
-        Newest::Voice(w) => w == voice,
+        None => false,
+        Some(w) => w == voice,
     }
 }
 
 // the newest after a voice has ended
-fn newest_after(newest: Newest, voice: usize, active: [bool; VOICES], rank: [u8; VOICES]) -> Newest
+fn newest_after(
+    newest: Option<usize>,
+    voice: usize,
+    active: [bool; VOICES],
+    rank: [u8; VOICES],
+) -> Option<usize>
     ensures { result ≡ newest_after newest voice active rank }
 {
     if is_voice(newest, voice) {
@@ -134,25 +122,12 @@ fn newest_after(newest: Newest, voice: usize, active: [bool; VOICES], rank: [u8;
     newest
 }
 
-// 1 where it is on
-fn one_if(on: bool) -> usize
-    ensures { result ≡ cond on 1 0 }
-{
-    if on { 1 } else { 0 }
-}
-
 // how many of the first n are on
 fn count_on(active: [bool; VOICES], n: usize) -> usize
     requires { n ≤ most_voices }
     ensures { result ≡ count_on (take n active) }
 {
-    let mut many = 0usize;
-    let mut v = 0usize;
-    while v < n {
-        many += one_if(active[v]);
-        v += 1;
-    }
-    many
+    active[..n].iter().filter(|on| **on).count()
 }
 
 impl Voices {
@@ -163,7 +138,7 @@ impl Voices {
         Voices {
             active: [false; VOICES],
             rank: first_ranks(),
-            newest: Newest::Nobody,
+            newest: None,
         }
     }
 
@@ -183,7 +158,7 @@ impl Voices {
         Voices {
             active,
             rank: next,
-            newest: Newest::Voice(voice),
+            newest: Some(voice),
         }
     }
 
@@ -214,24 +189,18 @@ impl Voices {
     }
 
     // whether a voice sounds
+    #[tactic(auto, unfolding(crate::specs::Voices::is_sounding))]
     pub fn is_active(self, voice: usize) -> bool
         ensures { result ≡ is_sounding self voice }
     {
-        if voice < VOICES {
-            return self.active[voice];
-        }
-        false
+        self.active.get(voice).copied().unwrap_or(false)
     }
 
     // how many of the first n voices sound
     pub fn active_count(self, n: usize) -> usize
         ensures { result ≡ active_count self n }
     {
-        let active = self.active;
-        if n < VOICES {
-            return count_on(active, n);
-        }
-        count_on(active, VOICES)
+        count_on(self.active, n.min(VOICES))
     }
 }
 
@@ -247,26 +216,13 @@ pub struct Marks {
     pub any_renoted: bool,
 }
 
-// whether either is on
-fn or(a: bool, b: bool) -> bool
-    ensures { result ≡ (a || b) }
-{
-    if a {
-        return true;
-    }
-    b
-}
-
 // each mark that either has
 fn either(marks: [bool; VOICES], others: [bool; VOICES]) -> [bool; VOICES]
     ensures { result ≡ joined ◌||◌ marks others }
 {
     let mut out = marks;
-    let mut v = 0usize;
-    while v < VOICES {
-        let on = out[v];
-        out[v] = or(on, others[v]);
-        v += 1;
+    for v in 0..VOICES {
+        out[v] = out[v] | others[v];
     }
     out
 }
@@ -275,14 +231,7 @@ fn either(marks: [bool; VOICES], others: [bool; VOICES]) -> [bool; VOICES]
 fn any(marks: [bool; VOICES]) -> bool
     ensures { result ≡ any_of marks }
 {
-    let mut v = 0usize;
-    while v < VOICES {
-        if marks[v] {
-            return true;
-        }
-        v += 1;
-    }
-    false
+    marks.iter().any(|on| *on)
 }
 
 impl Marks {
@@ -336,9 +285,9 @@ impl Marks {
         let renoted = self.renoted;
         Marks {
             fresh: either(fresh, active),
-            any_fresh: or(self.any_fresh, some),
+            any_fresh: self.any_fresh | some,
             renoted: either(renoted, active),
-            any_renoted: or(self.any_renoted, some),
+            any_renoted: self.any_renoted | some,
         }
     }
 
@@ -359,7 +308,7 @@ pub struct Glide {
     pub step: f32,
 }
 
-// A legato time.
+// A legato time. The scope names the form, an enum of its own rather than an Option (docs/SCOPE.md, S143).
 #[derive(Clone, Copy)]
 pub enum Legato {
     NoGlide,
@@ -377,16 +326,11 @@ pub struct Notes {
 pub fn legato_time(legato: bool, glide: bool, seconds: f32) -> Legato
     ensures { result ≡ legato_time legato glide seconds }
 {
-    if !legato {
-        return Legato::NoGlide;
+    if legato && glide && seconds > 0.0 {
+        Legato::Glide { seconds }
+    } else {
+        Legato::NoGlide
     }
-    if !glide {
-        return Legato::NoGlide;
-    }
-    if seconds > 0.0 {
-        return Legato::Glide { seconds };
-    }
-    Legato::NoGlide
 }
 
 // whether a value set glides to its target; where it does not, it is there at once
@@ -505,10 +449,8 @@ fn moved_value(value: f32, glide: Glide, frames: f32) -> f32
 fn moved_glide(value: f32, glide: Glide, frames: f32) -> Glide
     ensures { result ≡ moved_glide frames value glide }
 {
-    if is_moving(glide) {
-        if arrives(value, glide, glide.step * frames) {
-            return stopped(glide);
-        }
+    if is_moving(glide) && arrives(value, glide, glide.step * frames) {
+        return stopped(glide);
     }
     glide
 }
@@ -517,15 +459,7 @@ fn moved_glide(value: f32, glide: Glide, frames: f32) -> Glide
 fn any_moving(glide: [Glide; VOICES]) -> bool
     ensures { result ≡ any_moving glide }
 {
-    let mut v = 0usize;
-    while v < VOICES {
-        let g = glide[v];
-        if is_moving(g) {
-            return true;
-        }
-        v += 1;
-    }
-    false
+    glide.iter().any(|g| is_moving(*g))
 }
 
 // every value after so many frames
@@ -533,12 +467,10 @@ fn moved_values(value: [f32; VOICES], glide: [Glide; VOICES], frames: f32) -> [f
     ensures { result ≡ joined (moved_value frames) value glide }
 {
     let mut out = value;
-    let mut v = 0usize;
-    while v < VOICES {
+    for v in 0..VOICES {
         let x = out[v];
         let g = glide[v];
         out[v] = moved_value(x, g, frames);
-        v += 1;
     }
     out
 }
@@ -548,12 +480,10 @@ fn moved_glides(value: [f32; VOICES], glide: [Glide; VOICES], frames: f32) -> [G
     ensures { result ≡ joined (moved_glide frames) value glide }
 {
     let mut out = glide;
-    let mut v = 0usize;
-    while v < VOICES {
+    for v in 0..VOICES {
         let x = value[v];
         let g = out[v];
         out[v] = moved_glide(x, g, frames);
-        v += 1;
     }
     out
 }

@@ -11,9 +11,6 @@ loop-n-init c = (search rules, search rules, search rules, λ st d o. frames-non
 pub frame-requires : goal.frame-requires
 frame-requires c = (bounded_at c.args.job c.args.chunk c.loop-n.n c.job_at-here.ensures c.requires.0, c.loop-n.invariant.4)
 
-pub overflow_add-n : goal.overflow_add-n
-overflow_add-n c = omega (arith, c.loop-n-test.true, c.requires.1)
-
 pub loop-n-smaller : goal.loop-n-smaller
 loop-n-smaller c = omega (arith, c.loop-n-test.true, c.requires.1)
 

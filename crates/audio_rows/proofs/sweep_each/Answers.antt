@@ -45,9 +45,6 @@ sweep_plan-requires c = let a = c.args in
       rows-room a.field a.chunk (a.control + i.k) (length i.audio) _ _ a.samples.now a.starts.now a.steps.now a.gains.now a.offsets.now c.audio_at-a.ensures.0 (ap (λ (z : Pass). z.width) pass) ready,
     )
 
-pub overflow_add-k : goal.overflow_add-k
-overflow_add-k c = omega (arith, c.requires.0.plans, c.loop-k-test.true)
-
 pub loop-k-smaller : goal.loop-k-smaller
 loop-k-smaller c = omega (arith, c.loop-k-test.true)
 

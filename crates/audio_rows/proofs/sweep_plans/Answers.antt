@@ -1,5 +1,6 @@
 use mathlib.Core.Bool.{not}
-use mathlib.Core.Path.{refl, sym, ap, ap₂, ◌∙◌}
+use mathlib.Core.Path.{◌≡◌, refl, sym, ap, ap₂, ◌∙◌}
+use native.Mathlib.Nat.{le_refl}
 use Prim.Native.Nat.{ℕ, ◌+◌, ◌<◌}
 use native.Mathlib.Omega.{arith}
 use lib.ListN.{length}
@@ -46,9 +47,6 @@ sweep_plan-requires c = let a = c.args in
       rows-room a.field a.chunk (a.control + i.k) (length i.audio) _ _ a.samples.now a.starts.now a.steps.now a.gains.now a.offsets.now c.audio_at-a.ensures.0 (ap (λ (z : Pass). z.width) pass) ready,
     )
 
-pub overflow_add-k : goal.overflow_add-k
-overflow_add-k c = omega (arith, c.requires.0.plans, c.loop-k-test.true)
-
 pub loop-k-smaller : goal.loop-k-smaller
 loop-k-smaller c = omega (arith, c.loop-k-test.true)
 
@@ -68,4 +66,6 @@ loop-k-preserved c = let a = c.args in
     )
 
 pub returns : goal.returns
-returns c = let i = c.loop-k in (i.invariant.0, i.invariant.1, i.invariant.4)
+returns c = let i = c.loop-k in
+    let e : c.args.count ≡ i.k = omega arith in
+    rw e (i.invariant.0, le_refl i.k, i.invariant.4)

@@ -2,10 +2,10 @@
 use Rattle.block_opening.specs.Draws.{drawn_aux}
 use Rattle.block_opening.proofs.draw_aux.Goals as goal
 
-pub returns-in-Missing : goal.returns-in-Missing
+pub returns-in-None : goal.returns-in-None
 unfolding drawn_aux
-returns-in-Missing c = rw c.in-Missing.is
+returns-in-None c = rw c.in-None.is
 
-pub returns-in-With : goal.returns-in-With
+pub returns-in-Some : goal.returns-in-Some
 unfolding drawn_aux
-returns-in-With c = rw c.in-With.is c.draw_read.ensures
+returns-in-Some c = rw c.in-Some.is c.draw_read.ensures

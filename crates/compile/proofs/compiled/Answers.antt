@@ -1,27 +1,55 @@
 -- `compile::compiled` meets its contract: the steps, put together.
-use mathlib.Core.Path.{◌≡◌}
+use mathlib.Core.Path.{◌≡◌, refl, ap, ◌∙◌}
+use mathlib.Core.List.{List, map}
 use lib.ListN.{length}
+use lib.Ieee.{of_bits}
 use Rattle.config.specs.Sizes.{slots}
 use Rattle.state.specs.declared.Wiring.{Wiring}
 use Rattle.model.specs.Plans.{compiled}
-use Rattle.compile.proofs.Assembled.{Steps, plan-count, control-count, route-count, plan-array, route-array, skip_count, skip-array}
+use Rattle.compile.proofs.Assembled.{Steps, candidates-are, control-are, order-is, plans-are, routes-are, skips-are}
+use borrow.Author.Rules.{rules}
 use Rattle.compile.proofs.compiled.Goals as goal
 
 pub returns : goal.returns
-unfolding compiled
+unfolding compiled of_bits
 returns c =
     let a = c.args in
     let w : Wiring = record { matrix = a.matrix; sources = a.sources; dests = a.dests; config = a.config } in
-    let long : length a.matrix.slot ≡ slots = c.well_formed.0.1.1.0.1.0.1 in
-    let steps : Steps w c.verdicts-verdict.result c.candidates-candidates.result c.used_dests-used.result c.readers-readers.result c.plan_order-planned.result c.plans-plan_list.result c.routes-route_list.result c.skips-left_out.result =
+    let long : length a.matrix.slot ≡ slots = search rules in
+    let cs = c.candidates-candidates.result.items in
+    let us = c.used_dests-used.result.items in
+    let rs = c.readers-readers.result.items in
+    let o = c.plan_order-planned in
+    let steps : Steps w c.verdicts-verdict.result cs us rs o.result.control o.result.order.items c.plans-plans.result.items c.routes-routes.result.items c.skips-left_out.result.items =
     record {
       judges = c.verdicts-verdict.ensures;
       takes = c.candidates-candidates.ensures;
       uses = c.used_dests-used.ensures;
-      reads = c.readers-readers.ensures;
-      orders = c.plan_order-planned.ensures;
-      plans = c.plans-plan_list.ensures;
-      routes = c.routes-route_list.ensures;
+      reads = rw c.deref.ensures.0 at c.readers-readers.ensures;
+      rates = o.ensures.control;
+      orders = rw c.deref-2.ensures.0 at o.ensures.order;
+      plans = rw c.deref-3.ensures.0 at c.plans-plans.ensures;
+      routes = rw c.deref-4.ensures.0 at c.routes-routes.ensures;
       skips = c.skips-left_out.ensures;
     } in
-    rw (plan-count w steps, control-count w steps, route-count w steps, plan-array w steps, route-array w steps long, skip_count w steps, skip-array w steps, c.gains-gains.ensures, c.source_count.ensures, c.dest_count.ensures, c.names_table.ensures)
+    rw (
+      c.source_count.ensures,
+      c.dest_count.ensures,
+      c.len.ensures.value,
+      order-is w steps,
+      control-are w steps,
+      c.len-2.ensures.value,
+      candidates-are w steps,
+      c.padded.ensures,
+      c.no_plan.ensures,
+      plans-are w steps,
+      c.padded-2.ensures,
+      c.no_route.ensures,
+      routes-are w steps long,
+      c.gains.ensures,
+      c.names_table.ensures,
+      c.len-3.ensures.value,
+      c.padded-3.ensures,
+      c.no_skip.ensures,
+      skips-are w steps,
+    ) refl

@@ -1,15 +1,13 @@
--- `compile::plans` meets its contract. The loop's invariant: the plans of the first k of the order stand there, and their routes end before `first`.
+-- `compile::plans` meets its contract. The loop's invariant: `out` and the plans of those left, whose routes start at `first`, are all.
 use mathlib.Core.Path.{◌≡◌}
-use Prim.Native.Nat.{◌*◌, ◌≤◌, ◌-◌}
-use lib.ListN.{length}
+use mathlib.Core.List.{◌++◌}
+use Prim.Native.Nat.{◌*◌, ◌≤◌}
+use lib.ListN.{drop, length}
 use Rattle.config.specs.Sizes.{slots}
-use Rattle.state_filled.specs.Filled.{candidates_in, readers_in, numbers_in}
-use Rattle.compile.proofs.Planned.{Planned}
+use Rattle.model.specs.Plans.{plans_in}
 use Rattle.compile.proofs.plans.Given as goal
 
-abbrev pub invariant-loop-k : goal.invariant-loop-k
-invariant-loop-k l =
-    (l.k ≤ l.n) × (l.first ≤ l.k * slots) × (length l.order.at ≡ slots) × Planned l.sources l.dests (candidates_in l.candidates) (readers_in l.readers) (numbers_in l.order) l.k l.first l.out
-
-abbrev pub decreases-loop-k : goal.decreases-loop-k
-decreases-loop-k l = l.n - l.k
+abbrev pub invariant-loop-d : goal.invariant-loop-d
+invariant-loop-d l =
+    (l.d-items ≡ l.order.items) × (length l.out.items ≤ l.d-index) × (l.first ≤ l.d-index * slots)
+    × (l.out.items ++ plans_in l.sources l.dests l.candidates l.readers.items l.first (drop l.d-index l.d-items) ≡ plans_in l.sources l.dests l.candidates l.readers.items 0 l.order.items)

@@ -2,7 +2,7 @@
 use Rattle.compile_candidates.proofs.aimed.Goals as goal
 
 pub returns-then-bypass : goal.returns-then-bypass
-returns-then-bypass c = rw (c.in-At.is, c.if-bypass.true)
+returns-then-bypass c = rw (c.in-Some.is, c.if-bypass.true)
 
 pub returns-else-bypass : goal.returns-else-bypass
-returns-else-bypass c = rw (c.in-At.is, c.if-bypass.false) c.look.ensures
+returns-else-bypass c = rw (c.in-Some.is, c.if-bypass.false) c.look.ensures

@@ -1,5 +1,5 @@
 -- `compile_candidates::aux_known` meets its contract.
 use Rattle.compile_candidates.proofs.aux_known.Goals as goal
 
-pub returns-in-Source : goal.returns-in-Source
-returns-in-Source c = rw c.in-Source.is c.known_source.ensures
+pub returns-in-Some : goal.returns-in-Some
+returns-in-Some c = rw c.in-Some.is c.known_source.ensures

@@ -2,10 +2,10 @@
 use Rattle.compile_candidates.proofs.Bytes.{known-byte}
 use Rattle.compile_candidates.proofs.aux_of.Goals as goal
 
-pub returns-in-Nothing : goal.returns-in-Nothing
-returns-in-Nothing c = λ h. rw c.in-Nothing.is
+pub returns-in-None : goal.returns-in-None
+returns-in-None c = λ h. rw c.in-None.is
 
-pub returns-in-Source : goal.returns-in-Source
-returns-in-Source c = λ h.
+pub returns-in-Some : goal.returns-in-Some
+returns-in-Some c = λ h.
     let a = c.args in
-    rw c.in-Source.is (c.kept.ensures (known-byte a.sources c.in-Source.i (rw c.in-Source.is at h)))
+    rw c.in-Some.is (c.kept.ensures (known-byte a.sources c.in-Some.i (rw c.in-Some.is at h)))

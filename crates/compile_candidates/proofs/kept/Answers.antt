@@ -1,8 +1,8 @@
 -- `compile_candidates::kept` meets its contract: below 256 the remainder is the number.
 use mathlib.Core.Path.{ap}
 use native.Mathlib.Nat.{mod-eq_of_lt}
-use Rattle.state.specs.declared.AuxSource.TheVariants as X
+use Rattle.std.specs.Prelude.{Some}
 use Rattle.compile_candidates.proofs.kept.Goals as goal
 
 pub returns : goal.returns
-returns c = λ h. ap X.Source (mod-eq_of_lt h)
+returns c = λ h. ap Some (mod-eq_of_lt h)

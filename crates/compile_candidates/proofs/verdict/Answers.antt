@@ -2,10 +2,10 @@
 use Rattle.model.specs.Wiring.{verdict}
 use Rattle.compile_candidates.proofs.verdict.Goals as goal
 
-pub returns-in-Nothing : goal.returns-in-Nothing
+pub returns-in-None : goal.returns-in-None
 unfolding verdict
-returns-in-Nothing c = rw c.in-Nothing.is
+returns-in-None c = rw c.in-None.is
 
-pub returns-in-Source : goal.returns-in-Source
+pub returns-in-Some : goal.returns-in-Some
 unfolding verdict
-returns-in-Source c = rw c.in-Source.is c.aimed.ensures
+returns-in-Some c = rw c.in-Some.is c.aimed.ensures

@@ -1,5 +1,5 @@
 -- `compile_feeds::audio_aux` meets its contract.
 use Rattle.compile_feeds.proofs.audio_aux.Goals as goal
 
-pub returns-in-Source : goal.returns-in-Source
-returns-in-Source c = rw (c.audio_source.ensures, c.in-Source.is)
+pub returns-in-Some : goal.returns-in-Some
+returns-in-Some c = rw (c.audio_source.ensures, c.in-Some.is)

@@ -1,11 +1,8 @@
--- `compile_feeds::feeder` meets its contract. The loop's invariant: `found` is the last of the first i that feeds the thing. The measure is what is left of
--- them.
-use Prim.Native.Nat.{◌≤◌, ◌-◌}
-use Rattle.compile_feeds.proofs.Fed.{Found}
+-- `compile_feeds::feeder` meets its contract. The loop's invariant: the last feeder is the one found, or one of those left.
+use mathlib.Core.Path.{◌≡◌}
+use lib.ListN.{drop}
+use Rattle.model.specs.Feeds.{last_feeder, feeder_in}
 use Rattle.compile_feeds.proofs.feeder.Given as goal
 
-abbrev pub invariant-loop-i : goal.invariant-loop-i
-invariant-loop-i l = (l.i ≤ l.n) × Found l.used l.thing l.i l.found
-
-abbrev pub decreases-loop-i : goal.decreases-loop-i
-decreases-loop-i l = l.n - l.i
+abbrev pub invariant-loop-u : goal.invariant-loop-u
+invariant-loop-u l = last_feeder l.thing l.found (drop l.u-index l.used) ≡ feeder_in l.used l.thing

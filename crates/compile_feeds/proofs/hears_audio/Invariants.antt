@@ -1,10 +1,8 @@
--- `compile_feeds::hears_audio` meets its contract. The loop's invariant: the first i candidates hear none. The measure is what is left of them.
-use Prim.Native.Nat.{◌≤◌, ◌-◌}
-use Rattle.compile_feeds.proofs.Heard.{Unheard}
+-- `compile_feeds::hears_audio` meets its contract. The loop's invariant: none of the candidates before hears.
+use mathlib.Core.Path.{◌≡◌}
+use lib.ListN.{drop}
+use Rattle.model.specs.Feeds.{hears_audio}
 use Rattle.compile_feeds.proofs.hears_audio.Given as goal
 
-abbrev pub invariant-loop-i : goal.invariant-loop-i
-invariant-loop-i l = (l.i ≤ l.n) × Unheard l.sources l.candidates l.d l.i
-
-abbrev pub decreases-loop-i : goal.decreases-loop-i
-decreases-loop-i l = l.n - l.i
+abbrev pub invariant-loop-c : goal.invariant-loop-c
+invariant-loop-c l = hears_audio l.sources (drop l.c-index l.candidates) l.d ≡ hears_audio l.sources l.candidates l.d

@@ -1,10 +1,8 @@
--- `compile_feeds::is_named` meets its contract. The loop's invariant: the first i candidates do not name d. The measure is what is left of them.
-use Prim.Native.Nat.{◌≤◌, ◌-◌}
-use Rattle.compile_feeds.proofs.Named.{Unnamed}
+-- `compile_feeds::is_named` meets its contract. The loop's invariant: none of the candidates before names d.
+use mathlib.Core.Path.{◌≡◌}
+use lib.ListN.{drop}
+use Rattle.model.specs.Feeds.{named}
 use Rattle.compile_feeds.proofs.is_named.Given as goal
 
-abbrev pub invariant-loop-i : goal.invariant-loop-i
-invariant-loop-i l = (l.i ≤ l.n) × Unnamed l.candidates l.d l.i
-
-abbrev pub decreases-loop-i : goal.decreases-loop-i
-decreases-loop-i l = l.n - l.i
+abbrev pub invariant-loop-c : goal.invariant-loop-c
+invariant-loop-c l = named (drop l.c-index l.candidates) l.d ≡ named l.candidates l.d

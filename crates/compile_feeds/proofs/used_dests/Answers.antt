@@ -1,28 +1,26 @@
-use mathlib.Core.Path.{◌≡◌}
+-- One destination more: named by a candidate, or not.
+use mathlib.Core.Path.{◌≡◌, sym, ap, ◌∙◌}
+use mathlib.Core.Bool.{true, false}
+use mathlib.Core.List.{List}
+use Prim.Native.Nat.{◌≤◌}
 use native.Mathlib.Omega.{arith}
-use borrow.Author.Rules.{rules}
 use lib.ListN.{length}
-use Rattle.list.proofs.Elements.{length-mapped}
 use Rattle.config.specs.Sizes.{slots}
-use Rattle.state.specs.Registry.{dest_count}
-use Rattle.state_filled.specs.Filled.{candidates_in}
-use Rattle.compile_feeds.proofs.Using.{using-next, using-all, candidates-most}
+use Rattle.state.specs.declared.Candidate.{Candidate}
+use Rattle.model.specs.Feeds.{named}
+use Rattle.compile_feeds.proofs.Using.{using-more, using-same}
 use Rattle.compile_feeds.proofs.used_dests.Goals as goal
-
-pub loop-d-init : goal.loop-d-init
-loop-d-init c = (search rules, c.no_used_dests-out.ensures)
+use Rattle.compile_feeds.proofs.used_dests.Goals.{then-is_named, else-is_named}
 
 pub loop-d-preserved : goal.loop-d-preserved
 loop-d-preserved c =
-    let l = c.loop-d in
     let a = c.args in
-    let e : length a.candidates.at ≡ slots = search (rules, length-mapped) in
-    let more = using-next a.sources a.dests (candidates_in a.candidates) (candidates-most a.candidates e) in
-    (search rules, more l.d l.out c.with_used-next.result l.invariant.1 c.with_used-next.ensures)
-
-pub returns : goal.returns
-returns c =
-    let l = c.loop-d in
-    let a = c.args in
-    let h : l.d ≡ dest_count a.dests = omega arith in
-    using-all a.sources a.dests (candidates_in a.candidates) l.d l.out l.invariant.1 h
+    let cs = a.candidates.now.items in
+    let d = c.loop-d.d in
+    let same = c.deref.ensures.0 in
+    let most : length cs ≤ slots = omega (arith, ap length same, c.deref.ensures.1) in
+    let test = ap (λ (l : List Candidate). named l d) (sym same) ∙ sym c.is_named.ensures in
+    elim c.if-is_named.branch [
+      | then-is_named w ↦ rw (w.out-is, w.add.ensures, w.used_as.ensures, w.deref-then-is_named.ensures.0, c.loop-d.invariant) (using-more a.sources a.dests cs d most (test ∙ w.if-is_named.true))
+      | else-is_named w ↦ rw (w.out-is, c.loop-d.invariant) (using-same a.sources a.dests cs d (test ∙ w.if-is_named.false))
+    ]

@@ -1,15 +1,38 @@
--- `compile_order::plan_order` meets its contract.
-use mathlib.Core.Path.{◌≡◌}
-use lib.ListN.{length}
+-- The steps of `plan_order`, one after the other.
+use mathlib.Core.Path.{◌≡◌, refl, ap, ◌∙◌}
+use mathlib.Core.Bool.{false, true}
+use mathlib.Core.List.{List, map}
+use Prim.Native.Nat.{ℕ, ◌≤◌}
+use native.Mathlib.Omega.{arith}
+use lib.ListN.{length, get_or, take}
 use Rattle.config.specs.Sizes.{slots}
-use Rattle.state_filled.specs.Filled.{used_dests_in, readers_in}
-use Rattle.compile_order.proofs.Lists.{used-most}
-use Rattle.compile_order.proofs.Marked.{planned}
+use Rattle.compile_order.specs.Marks.{rated_as, order_in}
+use Rattle.compile_order.proofs.Marked.{all_marks, placed-is, fits}
 use Rattle.compile_order.proofs.plan_order.Goals as goal
 
-pub returns : goal.returns
-returns c =
-    let a = c.args in
-    let long : length a.used.at ≡ slots = c.well_formed.0.1.1.1.0.1.0.1 in
-    planned (used_dests_in a.used) (readers_in a.readers) (used-most a.used long) _ _ _ _ _ _ _ c.rated-control.ensures c.held-count.ensures c.marks-feeds.ensures
-    c.plan_order-order.ensures c.at_places-first.ensures c.rated.ensures c.appended.ensures
+pub unwrap-requires : goal.unwrap-requires
+unwrap-requires c =
+    let us = c.args.used.now.items in
+    let rs = c.args.readers.now in
+    let few : length us ≤ slots = omega (arith, ap length c.deref.ensures.0, c.deref.ensures.1) in
+    let list = c.rated-control.ensures ∙ ap (rated_as false) c.deref.ensures.0 in
+    let marks = c.marks-feeds.ensures ∙ ap (all_marks rs) c.deref-2.ensures.0 in
+    let o = c.plan_order-order in
+    let at = c.at_places-out.ensures ∙ ap (λ (l : List ℕ). map (λ i. get_or l i 0) (take o.result.count o.result.place)) c.deref-3.ensures.0 in
+    let front = placed-is us rs few _ _ _ _ o.result list marks c.len.ensures.value o.ensures at in
+    let back = c.deref-5.ensures.0 ∙ c.rated.ensures ∙ ap (rated_as true) c.deref-4.ensures.0 in
+    c.try_extend_from_slice.ensures.variant.1 (omega (arith, fits us rs few, ap length front, ap length back))
+
+pub returns-clause-order : goal.returns-clause-order
+unfolding order_in
+returns-clause-order c =
+    let us = c.args.used.now.items in
+    let rs = c.args.readers.now in
+    let few : length us ≤ slots = omega (arith, ap length c.deref.ensures.0, c.deref.ensures.1) in
+    let list = c.rated-control.ensures ∙ ap (rated_as false) c.deref.ensures.0 in
+    let marks = c.marks-feeds.ensures ∙ ap (all_marks rs) c.deref-2.ensures.0 in
+    let o = c.plan_order-order in
+    let at = c.at_places-out.ensures ∙ ap (λ (l : List ℕ). map (λ i. get_or l i 0) (take o.result.count o.result.place)) c.deref-3.ensures.0 in
+    let front = placed-is us rs few _ _ _ _ o.result list marks c.len.ensures.value o.ensures at in
+    let back = c.deref-5.ensures.0 ∙ c.rated.ensures ∙ ap (rated_as true) c.deref-4.ensures.0 in
+    (rw c.unwrap.ensures at c.try_extend_from_slice.ensures.ok) ∙ rw (front, back) refl

@@ -1,5 +1,5 @@
 -- `compile_routes::link` meets its contract.
 use Rattle.compile_routes.proofs.link.Goals as goal
 
-pub returns-in-Dest : goal.returns-in-Dest
-returns-in-Dest c = rw (c.in-Dest.is, c.place.ensures)
+pub returns-in-Some : goal.returns-in-Some
+returns-in-Some c = rw (c.in-Some.is, c.place.ensures)

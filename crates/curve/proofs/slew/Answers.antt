@@ -1,18 +1,13 @@
 -- `curve::slew` meets its contract.
-use mathlib.Core.Path.{sym, ◌∙◌}
-use lib.Ieee.{of_bits}
+use mathlib.Core.Path.{sym}
+use Rattle.std.proofs.lemmas.Result.{err_from_is_err_and}
 use Rattle.curve.proofs.Laws.{slew-accepted, slew-refused}
 use Rattle.curve.proofs.slew.Goals as goal
 
-pub returns-then-code-ne0 : goal.returns-then-code-ne0
-unfolding of_bits
-returns-then-code-ne0 c =
-    let a = c.args in
-    let code = c.curve_code-code.ensures in
-    rw (code, slew-refused a.curve (λ e. c.if-code-ne0.true (code ∙ e)))
+pub returns-in_err-check_curve : goal.returns-in_err-check_curve
+returns-in_err-check_curve c =
+    let p = err_from_is_err_and c.from_residual.result c.from_residual.ensures.1 in
+    rw (p.1, p.2) (sym (slew-refused c.args.curve _ c.in_err-check_curve.ensures))
 
 pub returns : goal.returns
-returns c =
-    let a = c.args in
-    let code = c.curve_code-code.ensures in
-    rw (c.seconds_of-seconds.ensures, slew-accepted a.curve (sym code ∙ c.if-code-ne0.false))
+returns c = rw (c.seconds_of.ensures, slew-accepted c.args.curve (sym c.in_ok-check_curve.ensures))

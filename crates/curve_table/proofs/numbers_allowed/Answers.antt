@@ -1,21 +1,13 @@
-use mathlib.Core.Path.{sym, ◌∙◌}
-use native.Mathlib.Omega.{arith}
-use borrow.Author.Rules.{rules}
-use Rattle.curve_table.proofs.Laws.{allowed-from, allowed-past}
+-- `curve_table::numbers_allowed` meets its contract.
+use Rattle.std.proofs.Common.{rules, tests, ◌∙◌}
+use Rattle.std.proofs.lemmas.Iterator.{YieldsList-from_slice}
+use Rattle.std.proofs.lemmas.Iterator.Search.{all_from_yields_List}
+use Rattle.curve_table.specs.Table.{allowed}
+use Rattle.curve_table.proofs.Laws.{allowed-all}
 use Rattle.curve_table.proofs.numbers_allowed.Goals as goal
-
-pub returns-then-not-is_allowed : goal.returns-then-not-is_allowed
-returns-then-not-is_allowed c =
-    let t = c.args.table.now in
-    let here = sym c.is_allowed.ensures ∙ c.if-not-is_allowed.true in
-    sym (c.loop-i.invariant.1 ∙ allowed-from t c.loop-i.i c.loop-i-test.true ∙ rw here)
-
-pub loop-i-preserved : goal.loop-i-preserved
-loop-i-preserved c =
-    let t = c.args.table.now in
-    let here = sym c.is_allowed.ensures ∙ c.if-not-is_allowed.false in
-    (search rules, c.loop-i.invariant.1 ∙ allowed-from t c.loop-i.i c.loop-i-test.true ∙ rw here)
 
 pub returns : goal.returns
 returns c =
-    sym (c.loop-i.invariant.1 ∙ allowed-past c.args.table.now c.loop-i.i (omega arith))
+    let xs = c.args.table.now in
+    all_from_yields_List allowed _ _ _ c.all.ensures.ran (YieldsList-from_slice xs cc) (λ x b q k. search (rules, tests))
+    ∙ allowed-all xs

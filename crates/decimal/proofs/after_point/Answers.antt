@@ -2,7 +2,6 @@
 use mathlib.Core.Path.{sym, ap, ◌∙◌}
 use lib.ListN.{drop}
 use Rattle.decimal.proofs.Rows.{after_point-yes, after_point-no}
-use borrow.Author.Rules.{rules}
 use Rattle.decimal.proofs.after_point.Goals as goal
 
 pub returns-then-has_point : goal.returns-then-has_point

@@ -1,6 +1,5 @@
 -- `decimal::digits` meets its contract. Assumes nothing.
 use Rattle.decimal.proofs.Rows.{digits-is}
-use borrow.Author.Rules.{rules}
 use Rattle.decimal.proofs.digits.Goals as goal
 
 pub returns : goal.returns

@@ -1,6 +1,5 @@
 -- `decimal::exponent` meets its contract. Assumes nothing.
 use Rattle.decimal.proofs.Rows.{exponent-is}
-use borrow.Author.Rules.{rules}
 use Rattle.decimal.proofs.exponent.Goals as goal
 
 pub returns : goal.returns

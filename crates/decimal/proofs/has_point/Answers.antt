@@ -1,6 +1,5 @@
 -- `decimal::has_point` meets its contract. Assumes nothing.
-use Rattle.decimal.specs.Decimal.{lead, has_point}
-use borrow.Author.Rules.{rules}
+use Rattle.decimal.specs.Decimal.{has_point}
 use Rattle.decimal.proofs.has_point.Goals as goal
 
 pub returns : goal.returns

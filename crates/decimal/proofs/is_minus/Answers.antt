@@ -1,6 +1,5 @@
 -- `decimal::is_minus` meets its contract. Assumes nothing.
 use Rattle.decimal.specs.Decimal.{is_minus}
-use borrow.Author.Rules.{rules}
 use Rattle.decimal.proofs.is_minus.Goals as goal
 
 pub returns : goal.returns

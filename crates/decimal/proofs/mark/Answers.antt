@@ -2,7 +2,6 @@
 use mathlib.Core.Path.{sym, ap, ◌∙◌}
 use Rattle.decimal.specs.Decimal.{past}
 use Rattle.decimal.proofs.Rows.{mark-yes, mark-no}
-use borrow.Author.Rules.{rules}
 use Rattle.decimal.proofs.mark.Goals as goal
 
 pub returns-then-has_point : goal.returns-then-has_point

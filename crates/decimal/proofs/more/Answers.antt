@@ -1,7 +1,6 @@
 -- `decimal::more` meets its contract. Assumes nothing.
 use native.Mathlib.Omega.{arith}
 use Rattle.decimal.proofs.Rows.{digit_low}
-use borrow.Author.Rules.{rules}
 use Rattle.decimal.proofs.more.Goals as goal
 
 pub overflow_sub-next : goal.overflow_sub-next

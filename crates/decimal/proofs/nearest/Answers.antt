@@ -2,7 +2,6 @@
 use native.Mathlib.Omega.{arith}
 use native.Mathlib.Nat.{mod-lt}
 use Rattle.decimal.proofs.Rounding.{closest-down, closest-up, closest-tie, div_below}
-use borrow.Author.Rules.{rules}
 use Rattle.decimal.proofs.nearest.Goals as goal
 
 pub overflow_mul-twice : goal.overflow_mul-twice

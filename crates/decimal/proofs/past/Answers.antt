@@ -4,7 +4,6 @@ use Prim.Native.Nat.{ℕ}
 use lib.ListN.{drop}
 use Rattle.decimal.specs.Decimal.{past}
 use Rattle.decimal.proofs.Rows.{after-drop}
-use borrow.Author.Rules.{rules}
 use Rattle.decimal.proofs.past.Goals as goal
 
 pub returns : goal.returns

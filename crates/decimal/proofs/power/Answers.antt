@@ -2,7 +2,6 @@
 use mathlib.Core.Path.{ap, ◌∙◌}
 use lib.ListN.{drop}
 use Rattle.decimal.specs.Decimal.{power}
-use borrow.Author.Rules.{rules}
 use Rattle.decimal.proofs.power.Goals as goal
 
 pub returns : goal.returns

@@ -1,10 +1,6 @@
 -- `decimal::raised` meets its contract. Assumes nothing.
-use mathlib.Core.Path.{◌≡◌, sym, ap, ◌∙◌}
-use Prim.Native.Nat.{ℕ, ◌-◌, ◌*◌, ◌^◌, ◌<◌}
-use native.Mathlib.Omega.{arith}
-use native.Mathlib.Nat.{mul-one}
-use Rattle.decimal.proofs.Values.{next-two}
-use borrow.Author.Rules.{rules}
+use mathlib.Core.Path.{◌≡◌}
+use Prim.Native.Nat.{◌-◌, ◌*◌, ◌^◌, ◌<◌}
 use Rattle.decimal.proofs.raised.Given as goal
 
 abbrev pub invariant-loop-value : goal.invariant-loop-value

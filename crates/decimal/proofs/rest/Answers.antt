@@ -1,7 +1,6 @@
 -- `decimal::rest` meets its contract. Assumes nothing.
 use mathlib.Core.Path.{ap, ◌∙◌}
 use Rattle.decimal.specs.Decimal.{past, rest}
-use borrow.Author.Rules.{rules}
 use Rattle.decimal.proofs.rest.Goals as goal
 
 pub returns : goal.returns

@@ -9,7 +9,7 @@ use Rattle.decimal.proofs.scaled.Goals as goal
 
 pub returns-then-m-eq0 : goal.returns-then-m-eq0
 unfolding scaled
-returns-then-m-eq0 c = c.given.ensures ∙ ap given (c.signed.ensures ∙ signed-zero c.args.s) ∙ sym (rw (eq-eqb _ 0 c.if-m-eq0.true))
+returns-then-m-eq0 c = ap given (c.signed.ensures ∙ signed-zero c.args.s) ∙ sym (rw (eq-eqb _ 0 c.if-m-eq0.true))
 
 pub returns-then-down-up : goal.returns-then-down-up
 unfolding scaled

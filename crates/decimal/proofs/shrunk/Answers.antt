@@ -1,7 +1,6 @@
 -- `decimal::shrunk` meets its contract. Assumes nothing.
 use mathlib.Core.Path.{◌∙◌}
 use Rattle.decimal.proofs.Values.{far}
-use borrow.Author.Rules.{rules}
 use Rattle.decimal.proofs.shrunk.Goals as goal
 
 pub returns-then-f-gt17 : goal.returns-then-f-gt17

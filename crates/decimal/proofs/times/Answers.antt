@@ -1,5 +1,5 @@
 use mathlib.Core.Path.{◌≡◌, sym, ap, ◌∙◌}
-use Prim.Native.Nat.{ℕ, ◌-◌, ◌*◌, ◌^◌, ◌≤◌, ◌<◌}
+use Prim.Native.Nat.{ℕ, ◌*◌, ◌^◌, ◌<◌}
 use native.Mathlib.Omega.{arith}
 use native.Mathlib.Nat.{mul-one}
 use mathlib.Core.Bool.{false, cond}
@@ -14,14 +14,17 @@ use Rattle.decimal.proofs.times.Goals as goal
 pub loop-i-init : goal.loop-i-init
 loop-i-init c = (search rules, sym (mul-one _), search rules)
 
-pub returns-then-n-gt1844674407370955161 : goal.returns-then-n-gt1844674407370955161
+pub returns-in_default : goal.returns-in_default
 unfolding times
-returns-then-n-gt1844674407370955161 c =
+returns-in_default c =
     let a = c.args in
-    rw (c.beyond.ensures, le-ltb (a.m * 10 ^ a.p) (2 ^ 64) (too_large a.m c.loop-i.i a.p c.loop-i.n c.loop-i-test.true c.loop-i.invariant.1 c.if-n-gt1844674407370955161.true))
+    let over : 1844674407370955161 < c.loop-i.n = omega (arith, c.in_default.ensures) in
+    rw (le-ltb (a.m * 10 ^ a.p) (2 ^ 64) (too_large a.m c.loop-i.i a.p c.loop-i.n c.loop-i-test.true c.loop-i.invariant.1 over))
 
 pub loop-i-preserved : goal.loop-i-preserved
-loop-i-preserved c = (search rules, ap (λ (z : ℕ). z * 10) c.loop-i.invariant.1 ∙ next-ten _ _, omega arith)
+loop-i-preserved c =
+    let m = c.in-Some.ensures in
+    (search rules, m.1 ∙ ap (λ (z : ℕ). z * 10) c.loop-i.invariant.1 ∙ next-ten _ _, omega (arith, m.0, m.1))
 
 pub returns : goal.returns
 unfolding times of_int
@@ -30,5 +33,5 @@ returns c =
     let i : c.loop-i.i ≡ a.p = omega arith in
     let n : c.loop-i.n ≡ a.m * 10 ^ a.p = c.loop-i.invariant.1 ∙ ap (λ (z : ℕ). a.m * 10 ^ z) i in
     let x = c.nearest_u64_to_f32.ensures ∙ ap (λ (z : ℕ). round binary32 false z 1) n in
-    c.given.ensures ∙ ap given (c.signed.ensures ∙ ap (λ (z : Float). cond a.s (neg z) z) x ∙ signed_round binary32 a.s (a.m * 10 ^ a.p) 1)
+    ap given (c.signed.ensures ∙ ap (λ (z : Float). cond a.s (neg z) z) x ∙ signed_round binary32 a.s (a.m * 10 ^ a.p) 1)
     ∙ sym (rw (lt-ltb (a.m * 10 ^ a.p) (2 ^ 64) (omega (arith, n, c.loop-i.invariant.2))))

@@ -1,9 +1,7 @@
 -- `engine_notes::ended` meets its contract.
-use borrow.Author.Tests.{ne_eqb}
+use Rattle.engine_notes.specs.Noting.{sound_ended}
 use Rattle.engine_notes.proofs.ended.Goals as goal
 
-pub returns-then-code-ne0 : goal.returns-then-code-ne0
-returns-then-code-ne0 c = rw (ne_eqb _ 0 c.if-code-ne0.true)
-
 pub returns : goal.returns
-returns c = rw c.if-code-ne0.false c.stopped.ensures
+unfolding sound_ended
+returns c = rw (c.voice_ended.ensures, c.voice_ended-2.ensures, c.voice_ended-3.ensures, c.voice_ended-4.ensures)

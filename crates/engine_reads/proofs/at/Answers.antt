@@ -1,42 +1,46 @@
 -- `engine_reads::at` meets its contract.
+use mathlib.Core.Path.{refl}
 use native.Mathlib.Omega.{arith}
 use borrow.Author.Tests.{not-true, not-false}
 use Rattle.model.specs.NoteCalls.{voice_row}
 use Rattle.engine_reads.proofs.Calls.{same_code, voice-most, at-refused, at_none, at-past, at_value}
+use Rattle.std.proofs.lemmas.Result.{err_from_is_err_and}
+use Rattle.engine_reads.proofs.Readings.{number-taken}
 use Rattle.engine_reads.proofs.Spots.{bounds}
 use Rattle.engine_reads.proofs.at.Goals as goal
 
-pub returns-then-code-ne0 : goal.returns-then-code-ne0
-returns-then-code-ne0 c =
+pub returns-in_err-judge : goal.returns-in_err-judge
+returns-in_err-judge c =
     let a = c.args in
-    let e = same_code (voice_row a.state a.voice) c.code-code.ensures c.audio_short.ensures in
-    at-refused a.state a.audio.now a.dest a.frame a.voice e c.if-code-ne0.true
+    let e = same_code (voice_row a.state a.voice) c.in_err-judge.ensures c.audio_short.ensures in
+    let p = err_from_is_err_and c.from_residual.result c.from_residual.ensures.1 in
+    rw (p.1, p.2) (at-refused a.state a.audio.now a.dest a.frame a.voice e (number-taken c.in_err-judge.field-0.0))
 
 pub returns-then-not-spot : goal.returns-then-not-spot
 returns-then-not-spot c =
     let a = c.args in
-    let e = same_code (voice_row a.state a.voice) c.code-code.ensures c.audio_short.ensures in
+    let e = same_code (voice_row a.state a.voice) c.in_ok-judge.ensures c.audio_short.ensures in
     let s = c.spot_of-spot in
-    at_none a.state a.audio.now a.dest a.frame a.voice e c.if-code-ne0.false s.result s.ensures (not-true _ c.if-not-spot.true)
+    at_none a.state a.audio.now a.dest a.frame a.voice e refl s.result s.ensures (not-true _ c.if-not-spot.true)
 
 pub returns-then-frame_count-frame : goal.returns-then-frame_count-frame
 returns-then-frame_count-frame c =
     let a = c.args in
-    let e = same_code (voice_row a.state a.voice) c.code-code.ensures c.audio_short.ensures in
+    let e = same_code (voice_row a.state a.voice) c.in_ok-judge.ensures c.audio_short.ensures in
     let s = c.spot_of-spot in
-    at-past a.state a.audio.now a.dest a.frame a.voice e c.if-code-ne0.false s.result s.ensures (not-false _ c.if-not-spot.false) (omega (arith, c.frame_count.ensures))
+    at-past a.state a.audio.now a.dest a.frame a.voice e refl s.result s.ensures (not-false _ c.if-not-spot.false) (omega (arith, c.frame_count.ensures))
 
 pub number_of-requires : goal.number_of-requires
 number_of-requires c =
     let a = c.args in
-    let e = same_code (voice_row a.state a.voice) c.code-code.ensures c.audio_short.ensures in
+    let e = same_code (voice_row a.state a.voice) c.in_ok-judge.ensures c.audio_short.ensures in
     let s = c.spot_of-spot in
     let b = bounds a.state a.dest s.result s.ensures in
-    (b.rows_most, b.width-least, voice-most a.state a.voice _ e c.if-code-ne0.false)
+    (b.rows_most, b.width-least, voice-most a.state a.voice _ e refl)
 
 pub returns : goal.returns
 returns c =
     let a = c.args in
-    let e = same_code (voice_row a.state a.voice) c.code-code.ensures c.audio_short.ensures in
+    let e = same_code (voice_row a.state a.voice) c.in_ok-judge.ensures c.audio_short.ensures in
     let s = c.spot_of-spot in
-    at_value a.state a.audio.now a.dest a.frame a.voice e c.if-code-ne0.false s.result s.ensures (not-false _ c.if-not-spot.false) (omega (arith, c.frame_count.ensures)) c.number_of.ensures
+    at_value a.state a.audio.now a.dest a.frame a.voice e refl s.result s.ensures (not-false _ c.if-not-spot.false) (omega (arith, c.frame_count.ensures)) c.number_of.ensures

@@ -2,20 +2,20 @@
 use mathlib.Core.Path.{sym, ◌∙◌}
 use borrow.Author.Tests.{not-true, not-false}
 use Rattle.engine_reads.proofs.Spots.{bounds}
-use Rattle.engine_reads.proofs.PartsRead.{both, no-from-short, no-from, from-part-is}
+use Rattle.engine_reads.proofs.PartsRead.{said, no-from-short, no-from, from-part-is}
 use Rattle.model.specs.Outputs.{chunk_count}
 use Rattle.engine_reads.proofs.from_part.Goals as goal
 
 pub returns-then-values_short : goal.returns-then-values_short
 returns-then-values_short c =
     let a = c.args in
-    both c.none.ensures (no-from-short a.state a.values.now a.dest (sym c.values_short.ensures ∙ c.if-values_short.true))
+    sym (no-from-short a.state a.values.now a.dest (sym c.values_short.ensures ∙ c.if-values_short.true))
 
 pub returns-then-not-spot : goal.returns-then-not-spot
 returns-then-not-spot c =
     let a = c.args in
     let s = c.spot_of-spot in
-    both c.none-then-not-spot.ensures (no-from a.state a.values.now a.dest (sym c.values_short.ensures ∙ c.if-values_short.false) s.result s.ensures (not-true _ c.if-not-spot.true))
+    said c.none.ensures (no-from a.state a.values.now a.dest (sym c.values_short.ensures ∙ c.if-values_short.false) s.result s.ensures (not-true _ c.if-not-spot.true))
 
 pub rows-requires : goal.rows-requires
 rows-requires c =
@@ -28,4 +28,4 @@ unfolding chunk_count
 returns c =
     let a = c.args in
     let s = c.spot_of-spot in
-    both c.rows.ensures (from-part-is a.state a.values.now a.dest (sym c.values_short.ensures ∙ c.if-values_short.false) s.result s.ensures (not-false _ c.if-not-spot.false) c.chunk_count.ensures)
+    said c.rows.ensures (from-part-is a.state a.values.now a.dest (sym c.values_short.ensures ∙ c.if-values_short.false) s.result s.ensures (not-false _ c.if-not-spot.false) c.chunk_count.ensures)

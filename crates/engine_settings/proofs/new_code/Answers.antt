@@ -1,16 +1,42 @@
 -- `engine_settings::new_code` meets its contract.
-use borrow.Author.Rules.{rules}
-use mathlib.Core.Path.{sym}
-use mathlib.Core.List.{[], ◌∷◌}
-use Rattle.config.specs.Configuration.{config_rows, config_code}
-use Rattle.refusal.specs.Judge.{◌when◌}
-use Rattle.refusal.proofs.Laws.{judged-append}
-use Rattle.engine_settings.specs.Codes.{new_short, new_code}
+use mathlib.Core.Path.{sym, ◌∙◌}
+use lib.Ieee.{of_bits}
+use borrow.Author.Tests.{lt-ltb, le-ltb}
+use Rattle.refusal.specs.Judge.{judged}
+use Rattle.engine_settings.specs.Codes.{new_code}
 use Rattle.engine_settings.proofs.new_code.Goals as goal
 
+pub returns-then-not-is_finite : goal.returns-then-not-is_finite
+unfolding new_code
+returns-then-not-is_finite c = simp (sym c.is_finite.ensures ∙ c.if-not-is_finite.true)
+
+pub returns-then-rate : goal.returns-then-rate
+unfolding new_code of_bits
+returns-then-rate c = simp (sym c.is_finite.ensures ∙ c.if-not-is_finite.false, c.if-rate.true)
+
+pub returns-then-config-gt-FRAMES : goal.returns-then-config-gt-FRAMES
+unfolding new_code of_bits
+returns-then-config-gt-FRAMES c =
+    simp (sym c.is_finite.ensures ∙ c.if-not-is_finite.false, c.if-rate.false, lt-ltb _ _ c.if-config-gt-FRAMES.true)
+
+pub returns-then-config-gt-VOICES : goal.returns-then-config-gt-VOICES
+unfolding new_code of_bits
+returns-then-config-gt-VOICES c =
+    simp (
+      sym c.is_finite.ensures ∙ c.if-not-is_finite.false,
+      c.if-rate.false,
+      le-ltb _ _ c.if-config-gt-FRAMES.false,
+      lt-ltb _ _ c.if-config-gt-VOICES.true,
+    )
+
 pub returns : goal.returns
-unfolding new_code config_code
+unfolding new_code of_bits judged
 returns c =
-    let a = c.args in
-    rw (c.first.ensures, c.row.ensures, c.code-code.ensures, c.new_short-short.ensures)
-    (sym (judged-append (config_rows a.config.sample_rate a.config.max_frames a.config.voices) (14 when new_short a.config a.sources a.dests a.held a.globals a.bases ∷ []) tt))
+    c.when.ensures
+    ∙ simp (
+      sym c.is_finite.ensures ∙ c.if-not-is_finite.false,
+      c.if-rate.false,
+      le-ltb _ _ c.if-config-gt-FRAMES.false,
+      le-ltb _ _ c.if-config-gt-VOICES.false,
+      c.new_short-short.ensures,
+    )

@@ -26,9 +26,9 @@ loop-b-preserved c =
     let test = is_free s.feeds.now s.placed.now s.n in
     let lt : b < s.n = omega arith in (
       omega arith,
-      c.loop-b.invariant.1 ∙ elim c.if-not-placed-b.branch [
-        | goal.then-not-placed-b+else-not-is_fed w ↦ first-not test s.placed.now s.n s.n b lt w.if-not-placed-b.true (ap not (sym w.is_fed.ensures ∙ w.if-not-is_fed.false))
-        | goal.else-not-placed-b w ↦ first_taken test s.placed.now s.n s.n b lt w.if-not-placed-b.false
+      c.loop-b.invariant.1 ∙ elim c.else-not-placed-b.branch [
+        | goal.else-not-placed-b-via-then-not-placed-b+else-not-is_fed w ↦ first-not test s.placed.now s.n s.n b lt w.if-not-placed-b.true (ap not (sym w.is_fed.ensures ∙ w.if-not-is_fed.false))
+        | goal.else-not-placed-b-via-else-not-placed-b w ↦ first_taken test s.placed.now s.n s.n b lt w.if-not-placed-b.false
       ],
     )
 

@@ -15,7 +15,7 @@ pub returns-then-a-b : goal.returns-then-a-b
 returns-then-a-b c =
     let s = c.args in
     fed-here (marked s.feeds.now) s.placed.now s.n s.b c.loop-a.a (omega arith)
-    (assumption) c.if-feeds-a.true c.if-a-b.true
+    c.if-not-placed-a.true c.if-feeds-a.true c.if-a-b.true
     ∙ sym c.loop-a.invariant.1
 
 pub loop-a-preserved : goal.loop-a-preserved
@@ -25,10 +25,10 @@ loop-a-preserved c =
     let f = marked s.feeds.now in
     let lt : a < s.n = omega arith in (
       omega arith,
-      c.loop-a.invariant.1 ∙ elim c.if-not-placed-a.branch [
-        | goal.then-not-placed-a+then-feeds-a+else-a-b w ↦ fed-self f s.placed.now s.n s.b a lt w.if-not-placed-a.true w.if-feeds-a.true w.if-a-b.false
-        | goal.then-not-placed-a+else-feeds-a w ↦ fed-not f s.placed.now s.n s.b a lt w.if-not-placed-a.true w.if-feeds-a.false
-        | goal.else-not-placed-a w ↦ fed-taken f s.placed.now s.n s.b a lt w.if-not-placed-a.false
+      c.loop-a.invariant.1 ∙ elim c.else-not-placed-a.branch [
+        | goal.else-not-placed-a-via-then-not-placed-a+then-feeds-a+else-a-b w ↦ fed-self f s.placed.now s.n s.b a lt w.if-not-placed-a.true w.if-feeds-a.true w.if-a-b.false
+        | goal.else-not-placed-a-via-then-not-placed-a+else-feeds-a w ↦ fed-not f s.placed.now s.n s.b a lt w.if-not-placed-a.true w.if-feeds-a.false
+        | goal.else-not-placed-a-via-else-not-placed-a w ↦ fed-taken f s.placed.now s.n s.b a lt w.if-not-placed-a.false
       ],
     )
 

@@ -4,4 +4,4 @@ use Rattle.feed.proofs.plan_order.Goals as goal
 
 pub returns : goal.returns
 unfolding plan_order
-returns c = cc (c.places.ensures, c.held-count.ensures)
+returns c = cc (c.places.ensures, c.min-count.ensures)

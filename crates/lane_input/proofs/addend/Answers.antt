@@ -12,7 +12,7 @@ returns-then-plan c = λ t e.
     ∙ own-addend t a.plan a.route a.lane g.result o.result c.if-plan.true (g.ensures t (rw e)) o.ensures
 
 pub returns-then-route : goal.returns-then-route
-returns-then-route c = λ t e. rw (c.if-plan.false, c.if-route.true, e) c.newest_lane.ensures
+returns-then-route c = λ t e. rw (c.if-plan.false, c.if-route.true, e)
 
 pub returns : goal.returns
 returns c = λ t e. rw (c.if-plan.false, c.if-route.false)

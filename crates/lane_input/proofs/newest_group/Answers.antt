@@ -1,5 +1,5 @@
 -- `lane_input::newest_group` meets its contract.
 use Rattle.lane_input.proofs.newest_group.Goals as goal
 
-pub returns-in-Voice : goal.returns-in-Voice
-returns-in-Voice c = rw (c.in-Voice.is, ← c.group_of.ensures.0, ← c.group_of-in-Voice.ensures.0)
+pub returns-in-Some : goal.returns-in-Some
+returns-in-Some c = rw (c.in-Some.is, ← c.group_of.ensures.0, ← c.group_of-in-Some.ensures.0)

@@ -1,12 +1,27 @@
 -- `matrix::add` meets its contract.
+use mathlib.Core.Path.{◌≡◌}
+use Rattle.std.proofs.lemmas.Result.{err_from_is_err_and}
+use Rattle.std.specs.Prelude.{Ok}
+use Rattle.matrix.proofs.Laws.{placed-refused}
 use Rattle.matrix.proofs.Replies.{add-said}
+use Rattle.matrix.specs.Answers.{placed_said}
 use Rattle.matrix.specs.Edits.{add_route}
 use Rattle.matrix.proofs.add.Goals as goal
+
+pub returns-in_err-when : goal.returns-in_err-when
+unfolding add_route
+returns-in_err-when c =
+    let a = c.args in
+    let p = err_from_is_err_and c.from_residual.result c.from_residual.ensures.1 in
+    let refused : placed_said a.matrix c.from_residual.result ≡ add_route a.matrix a.source a.destination a.amount a.polarity =
+    rw (p.1, p.2) (placed-refused _ _ a.matrix _ _ (cc (c.is_finite.ensures, c.in_err-when.ensures))) in
+    let said = add-said a.matrix a.source a.destination a.amount a.polarity _ refused in
+    record { value = said.0; reply = said.1 }
 
 pub returns : goal.returns
 unfolding add_route
 returns c =
     let a = c.args in
-    let said = add-said a.matrix a.source a.destination a.amount a.polarity c.place_at.result
-    (cc (c.is_finite.ensures, c.row-code.ensures, c.kept_amount.ensures, c.route_slot-route.ensures, c.first_empty.ensures, c.place_at.ensures)) in
+    let said = add-said a.matrix a.source a.destination a.amount a.polarity (placed_said a.matrix (Ok c.place.result))
+    (cc (c.is_finite.ensures, c.in_ok-when.ensures, c.kept_amount.ensures, c.route_slot-route.ensures, c.place.ensures)) in
     record { value = said.0; reply = said.1 }

@@ -1,10 +1,14 @@
 -- `matrix::drag_polarity` meets its contract.
 use mathlib.Core.Path.{sym, ◌∙◌}
-use Rattle.matrix.proofs.Laws.{polarity-refused, polarity-made}
+use Rattle.std.proofs.lemmas.Result.{err_from_is_err_and}
+use Rattle.matrix.proofs.Laws.{finite-refused, finite-accepted, polarity-refused, polarity-made}
 use Rattle.matrix.proofs.drag_polarity.Goals as goal
 
-pub returns-then-not-is_finite : goal.returns-then-not-is_finite
-returns-then-not-is_finite c = polarity-refused _ _ (sym c.is_finite.ensures ∙ c.if-not-is_finite.true)
+pub returns-in_err-when : goal.returns-in_err-when
+returns-in_err-when c =
+    let p = err_from_is_err_and c.from_residual.result c.from_residual.ensures.1 in
+    let no = finite-refused _ _ c.in_err-when.ensures in
+    rw (p.1, p.2, no.1) (polarity-refused _ _ (sym c.is_finite.ensures ∙ no.0))
 
 pub returns : goal.returns
-returns c = polarity-made _ _ _ (sym c.is_finite.ensures ∙ c.if-not-is_finite.false) c.polarity_at-polarity.ensures
+returns c = polarity-made _ _ _ (sym c.is_finite.ensures ∙ finite-accepted _ c.in_ok-when.ensures) c.polarity_at.ensures

@@ -1,12 +1,14 @@
 -- `matrix::limit_depth` meets its contract.
 use mathlib.Core.Path.{sym, ◌∙◌}
-use lib.Ieee.{of_bits}
-use Rattle.matrix.proofs.Laws.{depth-refused, depth-made}
+use Rattle.std.proofs.lemmas.Result.{err_from_is_err_and}
+use Rattle.matrix.proofs.Laws.{finite-refused, finite-accepted, depth-refused, depth-made}
 use Rattle.matrix.proofs.limit_depth.Goals as goal
 
-pub returns-then-not-both_finite : goal.returns-then-not-both_finite
-unfolding of_bits
-returns-then-not-both_finite c = depth-refused _ _ _ (sym c.both_finite.ensures ∙ c.if-not-both_finite.true)
+pub returns-in_err-when : goal.returns-in_err-when
+returns-in_err-when c =
+    let p = err_from_is_err_and c.from_residual.result c.from_residual.ensures.1 in
+    let no = finite-refused _ _ c.in_err-when.ensures in
+    rw (p.1, p.2, no.1) (depth-refused _ _ _ (sym c.both_finite.ensures ∙ no.0))
 
 pub returns : goal.returns
-returns c = depth-made _ _ _ _ (sym c.both_finite.ensures ∙ c.if-not-both_finite.false) c.depth_at-depth.ensures
+returns c = depth-made _ _ _ _ (sym c.both_finite.ensures ∙ finite-accepted _ c.in_ok-when.ensures) c.depth_at.ensures

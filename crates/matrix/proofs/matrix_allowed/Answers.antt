@@ -3,10 +3,10 @@ use mathlib.Core.Path.{sym, ◌∙◌}
 use Rattle.matrix.specs.Edits.{matrix_allowed}
 use Rattle.matrix.proofs.matrix_allowed.Goals as goal
 
-pub returns-then-not-all_finite : goal.returns-then-not-all_finite
+pub returns-then-all_finite : goal.returns-then-all_finite
 unfolding matrix_allowed
-returns-then-not-all_finite c = simp (sym c.all_finite.ensures ∙ c.if-not-all_finite.true)
+returns-then-all_finite c = c.named_allowed.ensures ∙ simp (sym c.all_finite.ensures ∙ c.if-all_finite.true)
 
-pub returns : goal.returns
+pub returns-else-all_finite : goal.returns-else-all_finite
 unfolding matrix_allowed
-returns c = c.named_allowed.ensures ∙ simp (sym c.all_finite.ensures ∙ c.if-not-all_finite.false)
+returns-else-all_finite c = c.if-all_finite.false ∙ simp (sym c.all_finite.ensures ∙ c.if-all_finite.false)

@@ -4,4 +4,4 @@ use Rattle.matrix.proofs.remove.Goals as goal
 
 pub returns : goal.returns
 unfolding remove_slot edited
-returns c = cc (c.slot_code.ensures, c.empty_slot.ensures, c.answer.ensures)
+returns c = cc (c.empty_slot.ensures, c.replace.ensures)

@@ -4,4 +4,4 @@ use Rattle.matrix.proofs.set_aux.Goals as goal
 
 pub returns : goal.returns
 unfolding set_aux edited
-returns c = cc (c.slot_code.ensures, c.slot_of.ensures, c.with_aux.ensures, c.answer.ensures)
+returns c = cc (c.slot_of.ensures, c.with_aux-slot.ensures, c.replace.ensures)

@@ -4,4 +4,4 @@ use Rattle.matrix.proofs.set_bypass.Goals as goal
 
 pub returns : goal.returns
 unfolding set_bypass edited
-returns c = cc (c.slot_code.ensures, c.slot_of.ensures, c.with_bypass.ensures, c.answer.ensures)
+returns c = cc (c.slot_of.ensures, c.with_bypass-slot.ensures, c.replace.ensures)

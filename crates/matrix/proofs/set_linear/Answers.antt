@@ -4,4 +4,4 @@ use Rattle.matrix.proofs.set_linear.Goals as goal
 
 pub returns : goal.returns
 unfolding set_linear edited
-returns c = cc (c.slot_code.ensures, c.slot_of.ensures, c.with_curve.ensures, c.answer.ensures)
+returns c = cc (c.slot_of.ensures, c.with_curve-slot.ensures, c.replace.ensures)

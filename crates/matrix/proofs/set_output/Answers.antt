@@ -4,4 +4,4 @@ use Rattle.matrix.proofs.set_output.Goals as goal
 
 pub returns : goal.returns
 unfolding set_slot_output edited
-returns c = cc (c.slot_of.ensures, c.kept_output.ensures, c.with_output-slot.ensures, c.is_finite.ensures, c.slot_and_number_code.ensures, c.answer.ensures)
+returns c = cc (c.slot_of.ensures, c.kept_output.ensures, c.with_output-slot.ensures, c.is_finite.ensures, c.replace_finite.ensures)

@@ -4,4 +4,4 @@ use Rattle.matrix.proofs.set_polarity.Goals as goal
 
 pub returns : goal.returns
 unfolding set_polarity edited
-returns c = cc (c.slot_code.ensures, c.slot_of.ensures, c.with_polarity.ensures, c.answer.ensures)
+returns c = cc (c.slot_of.ensures, c.with_polarity-slot.ensures, c.replace.ensures)

@@ -4,4 +4,4 @@ use Rattle.matrix.proofs.set_slot.Goals as goal
 
 pub returns : goal.returns
 unfolding set_slot edited
-returns c = cc (c.numbers_finite.ensures, c.slot_and_number_code.ensures, c.answer.ensures)
+returns c = cc (c.numbers_finite.ensures, c.replace_finite.ensures)

@@ -4,4 +4,4 @@ use Rattle.matrix.proofs.vibrato.Goals as goal
 
 pub returns : goal.returns
 unfolding add_vibrato
-returns c = cc (c.kept_amount.ensures, c.route_slot-route.ensures, c.with_aux-with_wheel.ensures, c.first_empty.ensures, c.place_at.ensures)
+returns c = cc (c.kept_amount.ensures, c.route_slot-route.ensures, c.with_aux.ensures, c.place.ensures)

@@ -29,9 +29,6 @@ loop-j-init c = let u = c.args.job in
 pub mix_route-requires : goal.mix_route-requires
 mix_route-requires c = let i = c.loop-j in (i.invariant.3, i.invariant.4, i.invariant.5, i.invariant.7, i.invariant.8, i.invariant.9)
 
-pub overflow_add-j : goal.overflow_add-j
-overflow_add-j c = omega (arith, c.loop-j-test.true, c.counted-count.ensures.1)
-
 pub loop-j-preserved : goal.loop-j-preserved
 loop-j-preserved c = let i = c.loop-j in
     let e = c.mix_route.ensures in

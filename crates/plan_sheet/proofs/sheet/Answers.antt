@@ -48,10 +48,6 @@ pub put_plan-requires : goal.put_plan-requires
 put_plan-requires c =
     (omega (arith, c.loop-d-test.true, c.requires.0), c.loop-d.invariant.2.numbers, c.loop-d.invariant.2.words)
 
-pub overflow_add-d : goal.overflow_add-d
-overflow_add-d c =
-    omega (arith, c.loop-d-test.true, c.requires.0)
-
 pub loop-d-smaller : goal.loop-d-smaller
 loop-d-smaller c =
     omega (arith, c.loop-d-test.true)

@@ -1,8 +1,8 @@
 -- `plan_sum::add_lane` meets its contract.
 use Rattle.plan_sum.proofs.add_lane.Goals as goal
 
-pub returns-in-At : goal.returns-in-At
-returns-in-At c = λ t f s j sn fr v. rw (c.in-At.is, ← c.lane_value.ensures t f s j sn fr v)
+pub returns-in-Some : goal.returns-in-Some
+returns-in-Some c = λ t f s j sn fr v. rw (c.in-Some.is, ← c.lane_value.ensures t f s j sn fr v)
 
-pub returns-in-Nowhere : goal.returns-in-Nowhere
-returns-in-Nowhere c = λ t f s j sn fr v. rw c.in-Nowhere.is
+pub returns-in-None : goal.returns-in-None
+returns-in-None c = λ t f s j sn fr v. rw c.in-None.is

@@ -57,9 +57,6 @@ four_row-requires c =
       omega (arith, i.invariant.1, c.requires.2, c.requires.0.span, row_inside a.pass.width less),
     )
 
-pub overflow_add-n-in-loop-n : goal.overflow_add-n-in-loop-n
-overflow_add-n-in-loop-n c = omega (arith, c.ranges.len, c.loop-n-test.true)
-
 pub loop-n-preserved : goal.loop-n-preserved
 loop-n-preserved c =
     let a = c.args in

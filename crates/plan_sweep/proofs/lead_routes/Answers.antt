@@ -43,9 +43,6 @@ offset_bounds-offsets-i c = omega (arith, c.loop-i.invariant.0, c.loop-i.invaria
 pub bounds-offsets-i : goal.bounds-offsets-i
 bounds-offsets-i c = omega (arith, c.loop-i.invariant.0, c.loop-i.invariant.1.routes, c.loop-i.invariant.1.starts, c.loop-i.invariant.1.steps, c.loop-i.invariant.1.gains, c.loop-i.invariant.1.offsets, c.loop-i.invariant.2, c.loop-i-test.true)
 
-pub overflow_add-i : goal.overflow_add-i
-overflow_add-i c = omega (arith, c.loop-i.invariant.0, c.loop-i.invariant.1.routes, c.loop-i.invariant.1.starts, c.loop-i.invariant.1.steps, c.loop-i.invariant.1.gains, c.loop-i.invariant.1.offsets, c.loop-i.invariant.2, c.loop-i-test.true)
-
 pub loop-i-smaller : goal.loop-i-smaller
 loop-i-smaller c = omega (arith, c.loop-i.invariant.0, c.loop-i.invariant.1.routes, c.loop-i.invariant.1.starts, c.loop-i.invariant.1.steps, c.loop-i.invariant.1.gains, c.loop-i.invariant.1.offsets, c.loop-i.invariant.2, c.loop-i-test.true)
 

@@ -1,13 +1,14 @@
 use mathlib.Core.Bool.{not}
 use Rattle.plan_turning.specs.Turns.{turned}
-use mathlib.Core.Path.{refl, ap, ◌∙◌}
+use mathlib.Core.Path.{◌≡◌, refl, ap, ◌∙◌}
+use native.Mathlib.Nat.{le_refl}
 use native.Mathlib.Omega.{arith}
 use Prim.Native.Nat.{ℕ, ◌<◌}
 use lib.ListN.{length}
 use Rattle.list.proofs.Elements.{get_or-inside, length-mapped}
 use Rattle.state_filled.specs.Filled.{no_plan}
 use Rattle.model.specs.Mix.{plan_mix}
-use Rattle.model.specs.Tick.{rows_of, own_of}
+use Rattle.model.specs.Tick.{rows_of, own_of, turns}
 use Rattle.lane_input.proofs.Tests.{was-true}
 use Rattle.plan_turning.proofs.Turned.{sums-of, ticks-of, plan-turned, turns_more}
 use borrow.Author.Rules.{rules}
@@ -46,4 +47,8 @@ loop-d-preserved c =
     )
 
 pub returns : goal.returns
-returns c = let i = c.loop-d in (i.invariant.0, i.invariant.1, i.invariant.4)
+returns c =
+    let i = c.loop-d in
+    let a = c.args in
+    let all : i.d ≡ a.round.control = omega arith in
+    (omega (arith, i.invariant.0), le_refl a.round.control, λ st t m z e. i.invariant.4 st t m z e ∙ ap (λ (n : ℕ). turns st t a.round.tick.phase n m) all)

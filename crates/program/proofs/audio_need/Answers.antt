@@ -1,6 +1,5 @@
 -- `program::audio_need` meets its contract.
 use Rattle.program.specs.Steps.{held_audio}
-use borrow.Author.Rules.{rules}
 use Rattle.program.proofs.audio_need.Goals as goal
 
 pub returns : goal.returns

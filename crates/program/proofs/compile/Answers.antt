@@ -1,24 +1,24 @@
 -- `program::compile` meets its contract.
 use mathlib.Core.Path.{◌≡◌, sym, ap, ◌∙◌}
-use Prim.Native.Nat.{◌≤◌}
 use lib.Ieee.{Float}
 use lib.ListN.{length}
 use mathlib.Core.List.{List}
+use Rattle.std.proofs.lemmas.Result.{err_from_is_err_and}
 use Rattle.config.specs.Sizes.{slots}
 use Rattle.state.specs.declared.Wiring.{Wiring}
 use Rattle.model.specs.Compile.{Memories, Made}
 use Rattle.program.proofs.Compiling.{compile-early, refused-by-tables, refused-by-memory, made, values-fit, audio-fits}
-use borrow.Author.Rules.{rules}
 use Rattle.program.proofs.compile.Goals as goal
 
-pub returns-then-early-ne0 : goal.returns-then-early-ne0
-returns-then-early-ne0 c =
+pub returns-in_err-check_early : goal.returns-in_err-check_early
+returns-in_err-check_early c =
     let a = c.args in
+    let p = err_from_is_err_and c.from_residual.result c.from_residual.ensures.1 in
     let w : Wiring = record { matrix = a.matrix; sources = a.sources; dests = a.dests; config = a.config } in
     let mt : List Float = a.matrix_tables.now in
     let l : Memories = record { values = a.values.now; audio = a.audio.now; tables = a.tables.now } in
-    let m = compile-early w mt l _ (sym c.early_code-early.ensures) c.if-early-ne0.true in
-    record { answer = c.refused.ensures ∙ sym (ap (λ (x : Made). x.answer) m); lent = sym (ap (λ (x : Made). x.lent) m) }
+    let m = compile-early w mt l c.in_err-check_early.field-0.0 c.in_err-check_early.ensures in
+    record { answer = rw (p.1, p.2) (sym (ap (λ (x : Made). x.answer) m)); lent = sym (ap (λ (x : Made). x.lent) m) }
 
 pub returns-then-tables_short : goal.returns-then-tables_short
 returns-then-tables_short c =
@@ -27,11 +27,11 @@ returns-then-tables_short c =
     let mt : List Float = a.matrix_tables.now in
     let l : Memories = record { values = a.values.now; audio = a.audio.now; tables = a.tables.now } in
     let long : length a.matrix.slot ≡ slots = c.well_formed.0.1.1.0.1.0.1 in
-    let e = sym c.early_code-early.ensures ∙ c.if-early-ne0.false in
+    let e = sym c.in_ok-check_early.ensures in
     let p = c.compiled-program.result in
     let is = c.compiled-program.ensures in
     let m = refused-by-tables w mt l long e p is (sym c.tables_short.ensures ∙ c.if-tables_short.true) in
-    record { answer = c.refused-then-tables_short.ensures ∙ sym (ap (λ (x : Made). x.answer) m); lent = sym (ap (λ (x : Made). x.lent) m) }
+    record { answer = sym (ap (λ (x : Made). x.answer) m); lent = sym (ap (λ (x : Made). x.lent) m) }
 
 pub returns-then-memory_short : goal.returns-then-memory_short
 returns-then-memory_short c =
@@ -40,11 +40,11 @@ returns-then-memory_short c =
     let mt : List Float = a.matrix_tables.now in
     let l : Memories = record { values = a.values.now; audio = a.audio.now; tables = a.tables.now } in
     let long : length a.matrix.slot ≡ slots = c.well_formed.0.1.1.0.1.0.1 in
-    let e = sym c.early_code-early.ensures ∙ c.if-early-ne0.false in
+    let e = sym c.in_ok-check_early.ensures in
     let p = c.compiled-program.result in
     let is = c.compiled-program.ensures in
     let m = refused-by-memory w mt l long e p is (sym c.tables_short.ensures ∙ c.if-tables_short.false) (sym c.memory_short.ensures ∙ c.if-memory_short.true) in
-    record { answer = c.refused-then-memory_short.ensures ∙ sym (ap (λ (x : Made). x.answer) m); lent = sym (ap (λ (x : Made). x.lent) m) }
+    record { answer = sym (ap (λ (x : Made). x.answer) m); lent = sym (ap (λ (x : Made). x.lent) m) }
 
 pub zero-requires : goal.zero-requires
 zero-requires c =
@@ -53,7 +53,7 @@ zero-requires c =
     let mt : List Float = a.matrix_tables.now in
     let l : Memories = record { values = a.values.now; audio = a.audio.now; tables = a.tables.now } in
     let long : length a.matrix.slot ≡ slots = c.well_formed.0.1.1.0.1.0.1 in
-    let e = sym c.early_code-early.ensures ∙ c.if-early-ne0.false in
+    let e = sym c.in_ok-check_early.ensures in
     let p = c.compiled-program.result in
     let is = c.compiled-program.ensures in
     rw c.values_need.ensures (values-fit w mt l long e p is (sym c.memory_short.ensures ∙ c.if-memory_short.false))
@@ -65,7 +65,7 @@ zero-requires-2 c =
     let mt : List Float = a.matrix_tables.now in
     let l : Memories = record { values = a.values.now; audio = a.audio.now; tables = a.tables.now } in
     let long : length a.matrix.slot ≡ slots = c.well_formed.0.1.1.0.1.0.1 in
-    let e = sym c.early_code-early.ensures ∙ c.if-early-ne0.false in
+    let e = sym c.in_ok-check_early.ensures in
     let p = c.compiled-program.result in
     let is = c.compiled-program.ensures in
     rw c.audio_need.ensures (audio-fits w mt l long e p is (sym c.memory_short.ensures ∙ c.if-memory_short.false))
@@ -77,7 +77,7 @@ returns c =
     let mt : List Float = a.matrix_tables.now in
     let l : Memories = record { values = a.values.now; audio = a.audio.now; tables = a.tables.now } in
     let long : length a.matrix.slot ≡ slots = c.well_formed.0.1.1.0.1.0.1 in
-    let e = sym c.early_code-early.ensures ∙ c.if-early-ne0.false in
+    let e = sym c.in_ok-check_early.ensures in
     let p = c.compiled-program.result in
     let is = c.compiled-program.ensures in
     let m = made w mt l long e p is (sym c.tables_short.ensures ∙ c.if-tables_short.false) (sym c.memory_short.ensures ∙ c.if-memory_short.false) in

@@ -1,8 +1,7 @@
 -- `program::copy_tables` meets its contract.
 use mathlib.Core.Path.{◌∙◌}
-use borrow.Author.Tests.{not-true, not-false, lt-ltb, le-ltb}
+use borrow.Author.Tests.{lt-ltb, le-ltb}
 use Rattle.program.specs.Steps.{copied}
-use borrow.Author.Rules.{rules}
 use Rattle.program.proofs.copy_tables.Goals as goal
 
 pub returns-then-not-named : goal.returns-then-not-named

@@ -1,15 +1,15 @@
 -- `program::empty` meets its contract.
-use borrow.Author.Tests.{eq-eqb, ne_eqb}
+use Rattle.std.proofs.lemmas.Result.{err_from_is_err_and}
 use Rattle.model.specs.Compile.{empty_program}
-use borrow.Author.Rules.{rules}
+use Rattle.program.proofs.Compiling.{answered-refused, answered-accepted}
 use Rattle.program.proofs.empty.Goals as goal
 
-pub returns-then-code-ne0 : goal.returns-then-code-ne0
+pub returns-in_err-check : goal.returns-in_err-check
 unfolding empty_program
-returns-then-code-ne0 c =
-    rw (← c.config_code-code.ensures, ne_eqb _ 0 c.if-code-ne0.true, c.refused.ensures)
+returns-in_err-check c =
+    let p = err_from_is_err_and c.from_residual.result c.from_residual.ensures.1 in
+    rw (p.1, p.2) (answered-refused _ _ _ c.in_err-check.ensures)
 
 pub returns : goal.returns
 unfolding empty_program
-returns c =
-    rw (← c.config_code-code.ensures, c.if-code-ne0.false, c.empty_of.ensures)
+returns c = rw c.empty_of.ensures (answered-accepted _ _ c.in_ok-check.ensures)

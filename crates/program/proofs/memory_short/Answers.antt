@@ -1,6 +1,5 @@
 -- `program::memory_short` meets its contract.
 use borrow.Author.Tests.{lt-ltb, le-ltb}
-use borrow.Author.Rules.{rules}
 use Rattle.program.proofs.memory_short.Goals as goal
 
 pub returns-then-values-values_need : goal.returns-then-values-values_need

@@ -1,7 +1,5 @@
 -- `program::numbers_allowed` meets its contract.
 use mathlib.Core.Path.{sym, ◌∙◌}
-use borrow.Author.Tests.{not-true, not-false}
-use borrow.Author.Rules.{rules}
 use Rattle.program.proofs.numbers_allowed.Goals as goal
 
 pub returns-then-not-all_finite : goal.returns-then-not-all_finite

@@ -6,7 +6,7 @@ use Prim.Native.Nat.{◌≤◌, ◌<◌, min}
 use lib.ListN.{length}
 use Rattle.config.specs.Sizes.{slots}
 use Rattle.state_filled.specs.Filled.{no_plan}
-use Rattle.program.specs.declared.PlanRead.TheVariants as W
+use Rattle.std.specs.Prelude.{Some, None}
 use Rattle.list.proofs.Elements.{get_or-inside, length-mapped}
 use Rattle.program.specs.Readers.{plan_at, plan_count}
 use Rattle.program.proofs.Replies.{plan-said}
@@ -18,7 +18,7 @@ unfolding plan_at plan_count
 returns-then-held-i c =
     let a = c.args in
     let past : min a.program.plans slots ≤ a.i = omega (arith, c.held.ensures, c.if-held-i.true) in
-    let said = plan-said a.program a.i W.Nothing (rw (le-ltb _ _ past)) in
+    let said = plan-said a.program a.i None (rw (le-ltb _ _ past)) in
     record { value = said.0; reply = said.1 }
 
 pub returns : goal.returns
@@ -27,5 +27,5 @@ returns c =
     let a = c.args in
     let inside : a.i < min a.program.plans slots = omega (arith, c.held.ensures, c.if-held-i.false) in
     let long : length a.program.plan ≡ slots = search (rules, length-mapped) in
-    let said = plan-said a.program a.i _ (rw (lt-ltb _ _ inside) (ap W.Plan (get_or-inside a.program.plan a.i _ no_plan (omega arith)))) in
+    let said = plan-said a.program a.i _ (rw (lt-ltb _ _ inside) (ap Some (get_or-inside a.program.plan a.i _ no_plan (omega arith)))) in
     record { value = said.0; reply = said.1 }

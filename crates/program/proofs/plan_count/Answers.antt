@@ -1,6 +1,5 @@
 -- `program::plan_count` meets its contract.
 use Rattle.program.specs.Readers.{plan_count}
-use borrow.Author.Rules.{rules}
 use Rattle.program.proofs.plan_count.Goals as goal
 
 pub returns : goal.returns

@@ -1,15 +1,9 @@
 -- `program::rate` meets its contract. The loop's invariant: the first i plans are others'.
-use mathlib.Core.Path.{◌≡◌, refl, sym, ◌∙◌}
+use mathlib.Core.Path.{◌≡◌}
 use Prim.Native.Nat.{◌≤◌, ◌-◌, min}
-use native.Mathlib.Omega.{arith}
-use borrow.Author.Rules.{rules}
 use lib.ListN.{length, take}
 use Rattle.config.specs.Sizes.{slots}
-use Rattle.list.proofs.Elements.{length-mapped}
-use Rattle.state_filled.proofs.Stored.{stored-from, stored-end}
-use Rattle.program.specs.Readers.{plan_count, rate_of}
-use Rattle.program.proofs.Rates.{Others, rate-here, others-next, no-rate}
-use Rattle.program.proofs.Replies.{rate-said}
+use Rattle.program.proofs.Rates.{Others}
 use Rattle.program.proofs.rate.Given as goal
 
 abbrev pub invariant-loop-i : goal.invariant-loop-i

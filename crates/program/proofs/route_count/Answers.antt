@@ -1,6 +1,5 @@
 -- `program::route_count` meets its contract.
 use Rattle.program.specs.Readers.{route_count}
-use borrow.Author.Rules.{rules}
 use Rattle.program.proofs.route_count.Goals as goal
 
 pub returns : goal.returns

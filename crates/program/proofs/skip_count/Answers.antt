@@ -1,6 +1,5 @@
 -- `program::skip_count` meets its contract.
 use Rattle.program.specs.Readers.{skip_count}
-use borrow.Author.Rules.{rules}
 use Rattle.program.proofs.skip_count.Goals as goal
 
 pub returns : goal.returns

@@ -6,7 +6,7 @@ use Prim.Native.Nat.{◌≤◌, ◌<◌, min}
 use lib.ListN.{length}
 use Rattle.config.specs.Sizes.{slots}
 use Rattle.state_filled.specs.Filled.{no_skip}
-use Rattle.program.specs.declared.SkippedRead.TheVariants as W
+use Rattle.std.specs.Prelude.{Some, None}
 use Rattle.list.proofs.Elements.{get_or-inside, length-mapped}
 use Rattle.program.specs.Readers.{skipped_at, skip_count}
 use Rattle.program.proofs.Replies.{skipped-said}
@@ -18,7 +18,7 @@ unfolding skipped_at skip_count
 returns-then-held-i c =
     let a = c.args in
     let past : min a.program.skips slots ≤ a.i = omega (arith, c.held.ensures, c.if-held-i.true) in
-    let said = skipped-said a.program a.i W.Nothing (rw (le-ltb _ _ past)) in
+    let said = skipped-said a.program a.i None (rw (le-ltb _ _ past)) in
     record { value = said.0; reply = said.1 }
 
 pub returns : goal.returns
@@ -27,5 +27,5 @@ returns c =
     let a = c.args in
     let inside : a.i < min a.program.skips slots = omega (arith, c.held.ensures, c.if-held-i.false) in
     let long : length a.program.skipped ≡ slots = search (rules, length-mapped) in
-    let said = skipped-said a.program a.i _ (rw (lt-ltb _ _ inside) (ap W.Skipped (get_or-inside a.program.skipped a.i _ no_skip (omega arith)))) in
+    let said = skipped-said a.program a.i _ (rw (lt-ltb _ _ inside) (ap Some (get_or-inside a.program.skipped a.i _ no_skip (omega arith)))) in
     record { value = said.0; reply = said.1 }

@@ -1,5 +1,5 @@
 -- `program::tables_short` meets its contract.
-use borrow.Author.Tests.{not-true, not-false, lt-ltb, le-ltb}
+use borrow.Author.Tests.{lt-ltb, le-ltb}
 use Rattle.program.proofs.tables_short.Goals as goal
 
 pub returns-then-not-named : goal.returns-then-not-named

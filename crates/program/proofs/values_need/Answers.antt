@@ -1,6 +1,5 @@
 -- `program::values_need` meets its contract.
 use Rattle.program.specs.Steps.{held_values}
-use borrow.Author.Rules.{rules}
 use Rattle.program.proofs.values_need.Goals as goal
 
 pub returns : goal.returns

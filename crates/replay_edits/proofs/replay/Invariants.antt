@@ -1,5 +1,5 @@
 -- `replay_edits::replay` is safe and ends. Assumes nothing.
-use Rattle.std.proofs.Common.{◌-◌, ◌≤◌, arith, rules}
+use Rattle.std.proofs.Common.{◌-◌, ◌≤◌}
 use Rattle.replay_edits.proofs.replay.Given as goal
 
 abbrev pub invariant-loop-k : goal.invariant-loop-k

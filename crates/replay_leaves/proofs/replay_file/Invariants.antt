@@ -1,7 +1,5 @@
 -- `replay_leaves::replay_file` meets its contract: 64 blocks of 65,205 bytes are counted without wrapping.
 use Prim.Native.Nat.{◌≤◌, ◌<◌, ◌-◌, ◌*◌}
-use native.Mathlib.Omega.{arith}
-use borrow.Author.Rules.{rules}
 use Rattle.replay_leaves.proofs.replay_file.Given as goal
 
 abbrev pub invariant-loop-k : goal.invariant-loop-k

@@ -1,19 +1,15 @@
-use native.Mathlib.Omega.{arith}
+-- `slots::count_aims` meets its contract.
+use mathlib.Core.Path.{◌≡◌, ◌∙◌}
+use Rattle.std.specs.List.{count_by}
+use Rattle.std.proofs.iter.runs.Made.{chains}
 use borrow.Author.Rules.{rules}
-use Rattle.slots.proofs.Laws.{count-from, count_past}
+use Rattle.state.specs.declared.Slot.{Slot}
+use Rattle.slots.specs.Slots.{aims_at}
+use Rattle.slots.proofs.Laws.{count_aims_by}
 use Rattle.slots.proofs.count_aims.Goals as goal
-
-pub loop-i-init : goal.loop-i-init
-loop-i-init c = (search rules, search rules, search rules, omega arith)
-
-pub loop-i-preserved : goal.loop-i-preserved
-loop-i-preserved c =
-    let a = c.args in
-    let l = c.loop-i in
-    let e = count-from a.target a.slot l.i _ _ (omega arith) c.aim_count-one.ensures.0 in
-    (search rules, l.invariant.1, omega (arith, c.aim_count-one.ensures.1), omega (arith, e, l.invariant.3))
 
 pub returns : goal.returns
 returns c =
     let a = c.args in
-    omega (arith, c.loop-i.invariant.3, count_past a.target a.slot c.loop-i.i (omega arith))
+    let e : c.count.result ≡ count_by (λ (s : Slot). aims_at a.target s.destination) a.slot = search (rules, chains) in
+    e ∙ count_aims_by a.target a.slot

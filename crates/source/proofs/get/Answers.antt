@@ -23,4 +23,4 @@ pub returns : goal.returns
 unfolding get_source
 returns c =
     let outside : source_count c.args.sources ≤ c.args.id = omega arith in
-    rw (le-ltb _ _ outside, c.blank_entry-source.ensures)
+    rw (le-ltb _ _ outside)

@@ -1,5 +1,6 @@
 -- `source::is_sequence` meets its contract. Assumes nothing.
 use mathlib.Core.Path.{sym, ◌∙◌}
+use Rattle.source_key.proofs.Bytes.{pointwise-same}
 use Rattle.source.proofs.Sequence.{sequence-value, sequence-none, sequence-index}
 use Rattle.source.proofs.is_sequence.Goals as goal
 
@@ -10,4 +11,4 @@ pub returns-then-n-eq0 : goal.returns-then-n-eq0
 returns-then-n-eq0 c = sym (sequence-none _ _ (sym c.is_numbered.ensures ∙ c.if-is_numbered.false) c.if-n-eq0.true)
 
 pub returns : goal.returns
-returns c = c.same_bytes.ensures ∙ sym (sequence-index _ _ (sym c.is_numbered.ensures ∙ c.if-is_numbered.false) c.if-n-eq0.false)
+returns c = c.eq.ensures ∙ pointwise-same _ _ ∙ sym (sequence-index _ _ (sym c.is_numbered.ensures ∙ c.if-is_numbered.false) c.if-n-eq0.false)

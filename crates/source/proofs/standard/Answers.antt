@@ -1,19 +1,19 @@
 -- `source::standard` meets its contract. It is refused by a row, or accepted since none applies. Assumes nothing.
-use mathlib.Core.Path.{sym, ◌∙◌}
-use Rattle.source.proofs.Accepted.{standard-refuses, standard-accepts}
+use mathlib.Core.Path.{sym}
+use Rattle.std.proofs.lemmas.Result.{err_from_is_err_and}
+use Rattle.source.proofs.Accepted.{standard-refuses-by, standard-accepts}
 use Rattle.source.proofs.standard.Goals as goal
 
-pub returns-then-code-ne0 : goal.returns-then-code-ne0
-returns-then-code-ne0 c =
+pub returns-in_err-check_standard : goal.returns-in_err-check_standard
+returns-in_err-check_standard c =
     let a = c.args in
-    let code = c.standard_code-code.ensures in
-    rw (code, c.new-none.ensures) (sym (standard-refuses a.counts a.keys.now a.lengths.now (λ none. c.if-code-ne0.true (code ∙ none))))
+    let p = err_from_is_err_and c.from_residual.result c.from_residual.ensures.1 in
+    rw (p.1, p.2) (sym (standard-refuses-by a.counts a.keys.now a.lengths.now _ c.in_err-check_standard.ensures))
 
-pub all_sources-sources-requires : goal.all_sources-sources-requires
-all_sources-sources-requires c = sym c.standard_code-code.ensures ∙ c.if-code-ne0.false
+pub all_sources-requires : goal.all_sources-requires
+all_sources-requires c = sym c.in_ok-check_standard.ensures
 
 pub returns : goal.returns
 returns c =
     let a = c.args in
-    let none = sym c.standard_code-code.ensures ∙ c.if-code-ne0.false in
-    rw c.all_sources-sources.ensures (sym (standard-accepts a.counts a.keys.now a.lengths.now none))
+    rw c.all_sources.ensures (sym (standard-accepts a.counts a.keys.now a.lengths.now (sym c.in_ok-check_standard.ensures)))

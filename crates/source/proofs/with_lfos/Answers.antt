@@ -13,7 +13,7 @@ loop-i-init c = (search rules, sym (counted_none lfo_pair _))
 pub loop-i-preserved : goal.loop-i-preserved
 loop-i-preserved c =
     let l = c.loop-i in
-    (search rules, c.with_lfo-more.ensures ∙ rw (l.invariant.1, add-one) (sym (counted-more lfo_pair l.i _)))
+    (search rules, c.with_lfo-next.ensures ∙ rw (l.invariant.1, add-one) (sym (counted-more lfo_pair l.i _)))
 
 pub returns : goal.returns
 unfolding with_lfos

@@ -15,7 +15,7 @@ pub loop-i-preserved : goal.loop-i-preserved
 loop-i-preserved c =
     let l = c.loop-i in
     let a = c.args in
-    (search rules, c.with_number-more.ensures ∙ rw (l.invariant.1, add-one) (sym (counted-more (step a.word.now a.after.now a.info) l.i _)))
+    (search rules, c.with_number-next.ensures ∙ rw (l.invariant.1, add-one) (sym (counted-more (step a.word.now a.after.now a.info) l.i _)))
 
 pub returns : goal.returns
 unfolding with_numbered

@@ -7,6 +7,7 @@ use lib.ListN.{length, get_or, drop}
 use borrow.Author.Tests.{ltb-true, ltb-false}
 use Rattle.source_key.specs.Bytes.{same_bytes}
 use Rattle.source_key.specs.Numbered.{is_digit, longer}
+use Rattle.source_key.proofs.Bytes.{pointwise-same}
 use Rattle.source_key.proofs.Reading.{digit-from, rest_from, read_above, read-digit, read-other, read-end, empty-after}
 use borrow.Author.Rules.{rules}
 use Rattle.source_key.proofs.reads_on.Goals as goal
@@ -22,7 +23,8 @@ returns-then-not-is_digit c =
     let b = get_or rest i 0 in
     let inside : i < length rest = omega arith in
     let other : is_digit b ≡ false = sym c.is_digit.ensures ∙ c.if-not-is_digit.true in
-    c.same_bytes.ensures
+    c.eq.ensures
+    ∙ pointwise-same _ _
     ∙ ap (λ (l : List ℕ). same_bytes l a.after.now) (rest_from rest i)
     ∙ sym (c.loop-i.invariant.2 ∙ read-other a.n a.after.now c.loop-i.v rest i inside c.loop-i.invariant.1 other)
 

@@ -12,15 +12,15 @@ pub returns-then-line-at-eq35 : goal.returns-then-line-at-eq35
 returns-then-line-at-eq35 c =
     line-comment _ _ c.skip-at.ensures c.if-line-at.false c.if-line-at-eq35.true
 
-pub returns-then-row-ge-COMMANDS : goal.returns-then-row-ge-COMMANDS
-returns-then-row-ge-COMMANDS c =
-    line-unknown _ _ _ _ c.skip-at.ensures c.if-line-at.false c.if-line-at-eq35.false c.word_at.ensures c.command_row-row.ensures c.if-row-ge-COMMANDS.true
+pub returns-then-row-ge39 : goal.returns-then-row-ge39
+returns-then-row-ge39 c =
+    line-unknown _ _ _ _ c.skip-at.ensures c.if-line-at.false c.if-line-at-eq35.false c.word_at.ensures c.command_row-row.ensures c.if-row-ge39.true
 
 pub rest-requires : goal.rest-requires
 rest-requires c =
     let on = c.next.ensures.onward c.if-line-at.false in
-    (c.if-row-ge-COMMANDS.false, omega arith, c.next.ensures.within, c.next.ensures.begun)
+    (c.if-row-ge39.false, omega arith, c.next.ensures.within, c.next.ensures.begun)
 
 pub returns : goal.returns
 returns c =
-    line-call _ _ _ _ _ _ c.skip-at.ensures c.if-line-at.false c.if-line-at-eq35.false c.word_at.ensures c.command_row-row.ensures c.if-row-ge-COMMANDS.false c.next.ensures c.rest.ensures
+    line-call _ _ _ _ _ _ c.skip-at.ensures c.if-line-at.false c.if-line-at-eq35.false c.word_at.ensures c.command_row-row.ensures c.if-row-ge39.false c.next.ensures c.rest.ensures

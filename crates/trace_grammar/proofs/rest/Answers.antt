@@ -5,6 +5,7 @@ use native.Mathlib.Omega.{arith}
 use borrow.Author.Tests.{not-true, not-false, lt-ltb, le-ltb, eq-eqb, ne_eqb}
 use lib.ListN.{length, drop, get_or}
 use Rattle.trace_input_session.specs.Lines.{is_blank, words_of}
+use Rattle.trace_grammar_kinds.specs.declared.Class as class
 use Rattle.trace_grammar.specs.Grammar.{rest_of, after_class}
 use Rattle.trace_grammar.specs.Commands.{command_at}
 use Rattle.trace_grammar.proofs.Laws.{rest-on, rest-wrong, rest-ends, inside}
@@ -36,7 +37,7 @@ loop-p-preserved c =
     let on = c.next-p.ensures.onward h in
     let w = c.word_at-w.result.now in
     let fit = sym c.is_fit.ensures ∙ c.if-not-is_fit.false in
-    let place = c.after-s.ensures ∙ ap (λ (n : ℕ). after_class n c.loop-p.s w) c.class_of.ensures in
+    let place = c.after-s.ensures ∙ ap (λ (n : class.Class). after_class n c.loop-p.s w) c.class_of.ensures in
     (c.next-p.ensures.within, omega arith, c.next-p.ensures.begun, rest-on l c.loop-p.s c.loop-p.k c.loop-p.p c.next-p.result c.after-s.result (command_at c.args.row) c.kind_at-kind.result w _ h c.loop-p.invariant.2 c.word_at-w.ensures c.kind_at-kind.ensures fit place c.next-p.ensures c.loop-p.invariant.3)
 
 pub returns : goal.returns

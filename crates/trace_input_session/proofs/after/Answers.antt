@@ -1,7 +1,6 @@
 -- `trace_input_session::after` meets its contract. Assumes nothing.
-use mathlib.Core.Path.{◌≡◌, sym, ◌∙◌}
+use mathlib.Core.Path.{◌∙◌}
 use Rattle.trace_input_session.proofs.Walks.{after_none, after-part}
-use borrow.Author.Rules.{rules}
 use Rattle.trace_input_session.proofs.after.Goals as goal
 
 pub returns-then-s-i : goal.returns-then-s-i

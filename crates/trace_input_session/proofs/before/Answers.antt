@@ -1,7 +1,6 @@
 -- `trace_input_session::before` meets its contract. Assumes nothing.
-use mathlib.Core.Path.{◌≡◌, sym, ◌∙◌}
+use mathlib.Core.Path.{◌∙◌}
 use Rattle.trace_input_session.proofs.Walks.{before-part}
-use borrow.Author.Rules.{rules}
 use Rattle.trace_input_session.proofs.before.Goals as goal
 
 pub returns : goal.returns

@@ -1,11 +1,5 @@
-use mathlib.Core.Path.{◌≡◌, sym, ◌∙◌}
-use mathlib.Core.Bool.{true, false}
-use Prim.Native.Nat.{ℕ, ◌+◌, ◌-◌, ◌<◌, ◌≤◌}
 use native.Mathlib.Omega.{arith}
-use lib.ListN.{length, drop, get_or}
-use Rattle.trace_input_session.specs.Lines.{is_blank, words_of}
 use Rattle.trace_input_session.proofs.Walks.{count-starts, count-step, count_past}
-use borrow.Author.Rules.{rules}
 use Rattle.trace_input_session.proofs.count.Goals as goal
 
 pub loop-p-init : goal.loop-p-init

@@ -1,11 +1,6 @@
-use mathlib.Core.Path.{◌≡◌, sym, ◌∙◌}
-use mathlib.Core.Bool.{true, false}
-use Prim.Native.Nat.{ℕ, ◌+◌, ◌-◌, ◌<◌, ◌≤◌}
+use mathlib.Core.Path.{sym, ◌∙◌}
 use native.Mathlib.Omega.{arith}
-use lib.ListN.{length, drop, get_or}
-use Rattle.trace_input_session.specs.Lines.{is_blank, words_of, index_of}
 use Rattle.trace_input_session.proofs.Walks.{index-starts, index-found, index-step, index-ends}
-use borrow.Author.Rules.{rules}
 use Rattle.trace_input_session.proofs.index.Goals as goal
 
 pub loop-p-init : goal.loop-p-init

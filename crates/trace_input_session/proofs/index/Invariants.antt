@@ -1,12 +1,9 @@
 -- `trace_input_session::index` meets its contract. The loop's invariant: the word is none of those passed. Assumes nothing.
-use mathlib.Core.Path.{◌≡◌, sym, ◌∙◌}
-use mathlib.Core.Bool.{true, false}
-use Prim.Native.Nat.{ℕ, ◌+◌, ◌-◌, ◌<◌, ◌≤◌}
-use native.Mathlib.Omega.{arith}
+use mathlib.Core.Path.{◌≡◌}
+use mathlib.Core.Bool.{false}
+use Prim.Native.Nat.{◌+◌, ◌-◌, ◌<◌, ◌≤◌}
 use lib.ListN.{length, drop, get_or}
 use Rattle.trace_input_session.specs.Lines.{is_blank, words_of, index_of}
-use Rattle.trace_input_session.proofs.Walks.{index-starts, index-found, index-step, index-ends}
-use borrow.Author.Rules.{rules}
 use Rattle.trace_input_session.proofs.index.Given as goal
 
 abbrev pub invariant-loop-p : goal.invariant-loop-p

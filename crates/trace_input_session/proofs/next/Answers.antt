@@ -1,6 +1,5 @@
 -- `trace_input_session::next` meets its contract. Assumes nothing.
 use Rattle.trace_input_session.proofs.Walks.{passed}
-use borrow.Author.Rules.{rules}
 use Rattle.trace_input_session.proofs.next.Goals as goal
 
 pub returns : goal.returns

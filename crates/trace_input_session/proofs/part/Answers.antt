@@ -1,10 +1,9 @@
 -- `trace_input_session::part` meets its contract. Assumes nothing.
-use mathlib.Core.Path.{◌≡◌, refl, ap, sym, ◌∙◌}
-use Prim.Native.Nat.{ℕ, ◌+◌, ◌-◌, ◌<◌, ◌≤◌}
+use mathlib.Core.Path.{◌≡◌}
+use Prim.Native.Nat.{◌-◌}
 use native.Mathlib.Omega.{arith}
-use borrow.Author.Tests.{not-true, not-false, eq-eqb, ne_eqb, lt-ltb, le-ltb}
+use borrow.Author.Tests.{lt-ltb, le-ltb}
 use Rattle.trace_input_session.specs.Lines.{part_of}
-use borrow.Author.Rules.{rules}
 use Rattle.trace_input_session.proofs.part.Goals as goal
 
 pub returns-then-s-end : goal.returns-then-s-end

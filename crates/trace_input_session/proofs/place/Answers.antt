@@ -1,11 +1,5 @@
-use mathlib.Core.Path.{◌≡◌, sym, ◌∙◌}
-use mathlib.Core.Bool.{true, false}
-use Prim.Native.Nat.{ℕ, ◌+◌, ◌-◌, ◌<◌, ◌≤◌}
 use native.Mathlib.Omega.{arith}
-use lib.ListN.{length, drop, get_or}
-use Rattle.trace_input_session.specs.Lines.{is_blank, words_of}
 use Rattle.trace_input_session.proofs.Walks.{place-step, placed}
-use borrow.Author.Rules.{rules}
 use Rattle.trace_input_session.proofs.place.Goals as goal
 
 pub loop-k-init : goal.loop-k-init

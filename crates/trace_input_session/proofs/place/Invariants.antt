@@ -1,12 +1,9 @@
 -- `trace_input_session::place` meets its contract. The loop's invariant: word k begins at the place. Assumes nothing.
-use mathlib.Core.Path.{◌≡◌, sym, ◌∙◌}
-use mathlib.Core.Bool.{true, false}
-use Prim.Native.Nat.{ℕ, ◌+◌, ◌-◌, ◌<◌, ◌≤◌}
-use native.Mathlib.Omega.{arith}
+use mathlib.Core.Path.{◌≡◌}
+use mathlib.Core.Bool.{false}
+use Prim.Native.Nat.{◌-◌, ◌<◌, ◌≤◌}
 use lib.ListN.{length, drop, get_or}
 use Rattle.trace_input_session.specs.Lines.{is_blank, words_of}
-use Rattle.trace_input_session.proofs.Walks.{place-step, placed}
-use borrow.Author.Rules.{rules}
 use Rattle.trace_input_session.proofs.place.Given as goal
 
 abbrev pub invariant-loop-k : goal.invariant-loop-k

@@ -1,12 +1,8 @@
-use mathlib.Core.Path.{◌≡◌, refl, ap, sym, ◌∙◌}
-use mathlib.Core.Bool.{true, false}
-use mathlib.Core.List.{List, [], ◌∷◌, ◌++◌, append-nil}
-use Prim.Native.Nat.{ℕ, ◌+◌, ◌-◌, ◌<◌, ◌≤◌}
+use mathlib.Core.Path.{sym, ◌∙◌}
+use mathlib.Core.Bool.{false}
 use native.Mathlib.Omega.{arith}
-use borrow.Author.Tests.{not-true, not-false, eq-eqb, ne_eqb, lt-ltb, le-ltb}
-use lib.ListN.{length, take, drop, get_or, drop_of_length-le}
-use Rattle.trace_input_session.specs.Lines.{is_blank, word_from, words_from, words_of, before_of, after_of, part_of}
-use Rattle.trace_input_session.proofs.Walks.{blank-at, inside-at, words-past, word_more, word-stops, word-ends, word-starts, before_more, before_here, before-past, after_more, after-here, after-past}
+use lib.ListN.{length}
+use Rattle.trace_input_session.proofs.Walks.{blank-at, words-past}
 use borrow.Author.Rules.{rules}
 use Rattle.trace_input_session.proofs.skip.Goals as goal
 

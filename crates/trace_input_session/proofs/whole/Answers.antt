@@ -1,63 +1,42 @@
-use mathlib.Core.Path.{◌≡◌, sym, ◌∙◌}
-use Prim.Native.Nat.{◌+◌, ◌-◌, ◌*◌, ◌^◌, ◌≤◌}
+-- `trace_input_session::whole` meets its contract. Assumes nothing.
+use mathlib.Core.Path.{sym, ◌∙◌}
+use Prim.Native.Nat.{◌≤◌, ◌+◌, ◌*◌, ◌^◌}
 use native.Mathlib.Omega.{arith}
-use borrow.Author.Rules.{rules}
-use borrow.Author.Tests.{not-true, not-false, eq-eqb, ne_eqb, lt-ltb, le-ltb}
-use lib.ListN.{length, get_or, drop}
-use Rattle.trace_input_session.specs.Words.{whole_of, digits_after, decimal_of}
-use Rattle.trace_input_session.proofs.Laws.{digits_from, digits-past}
+use Rattle.std.proofs.Common.{rules, tests}
+use Rattle.trace_input_session.proofs.Laws.{digits-past, digits-other, digits-over, digits-more, no-word, word-digits}
 use Rattle.trace_input_session.proofs.whole.Goals as goal
 
-pub returns-then-w-eq0 : goal.returns-then-w-eq0
-unfolding whole_of
-returns-then-w-eq0 c =
-    simp (c.no_whole.ensures, eq-eqb _ _ c.if-w-eq0.true)
+pub returns-then-is_empty : goal.returns-then-is_empty
+returns-then-is_empty c = no-word _ (search (rules, tests))
 
-pub loop-i-init : goal.loop-i-init
-unfolding whole_of
-loop-i-init c =
-    (search rules, rw (ne_eqb _ _ c.if-w-eq0.false))
+pub loop-b-init : goal.loop-b-init
+loop-b-init c = word-digits _ (λ h. search (rules, tests))
 
-pub returns-then-d-gt9 : goal.returns-then-d-gt9
-returns-then-d-gt9 c =
-    let w = c.args.w.now in
-    let v = c.loop-i.value in
-    let i = c.loop-i.i in
-    let d = decimal_of (get_or w i 0) in
-    let e = c.digit-d.ensures in
-    let from = digits_from w v i c.loop-i-test.true in
-    c.no_whole-then-d-gt9.ensures ∙ sym (c.loop-i.invariant.1 ∙ from ∙ rw (le-ltb d 10 (omega (arith, e, c.if-d-gt9.true))))
+pub returns-in_err-d : goal.returns-in_err-d
+returns-in_err-d c =
+    let l = c.loop-b in
+    c.from_residual.ensures ∙ sym (digits-other c.args.w.now l.value l.b-index c.loop-b-test.true c.in_err-d.ensures) ∙ l.invariant
 
-pub returns-then-value-gt1844674407370955161 : goal.returns-then-value-gt1844674407370955161
-returns-then-value-gt1844674407370955161 c =
-    let w = c.args.w.now in
-    let v = c.loop-i.value in
-    let i = c.loop-i.i in
-    let d = decimal_of (get_or w i 0) in
-    let e = c.digit-d.ensures in
-    let from = digits_from w v i c.loop-i-test.true in
-    c.no_whole-then-value-gt1844674407370955161.ensures ∙ sym (c.loop-i.invariant.1 ∙ from ∙ rw (lt-ltb d 10 (omega (arith, e, c.if-d-gt9.false)), le-ltb (v * 10 + d) (2 ^ 64) (omega (arith, c.if-value-gt1844674407370955161.true))))
+pub returns-in_err-checked_mul : goal.returns-in_err-checked_mul
+returns-in_err-checked_mul c =
+    let l = c.loop-b in
+    let over : 2 ^ 64 ≤ l.value * 10 + c.in_ok-d.d = omega (arith, c.in_err-checked_mul.ensures) in
+    c.from_residual-in_err-checked_mul.ensures
+    ∙ sym (digits-over c.args.w.now l.value l.b-index c.in_ok-d.d c.loop-b-test.true c.in_ok-d.ensures.1 (omega (arith, c.in_ok-d.ensures.0, c.in_ok-d.ensures.1)) over) ∙ l.invariant
 
-pub returns-then-d-value : goal.returns-then-d-value
-returns-then-d-value c =
-    let w = c.args.w.now in
-    let v = c.loop-i.value in
-    let i = c.loop-i.i in
-    let d = decimal_of (get_or w i 0) in
-    let e = c.digit-d.ensures in
-    let from = digits_from w v i c.loop-i-test.true in
-    c.no_whole-then-d-value.ensures ∙ sym (c.loop-i.invariant.1 ∙ from ∙ rw (lt-ltb d 10 (omega (arith, e, c.if-d-gt9.false)), le-ltb (v * 10 + d) (2 ^ 64) (omega (arith, e, c.if-d-gt9.false, c.if-d-value.true))))
+pub returns-in_err-value : goal.returns-in_err-value
+returns-in_err-value c =
+    let l = c.loop-b in
+    let over : 2 ^ 64 ≤ l.value * 10 + c.in_ok-d.d = omega (arith, c.in_err-value.ensures, c.in_ok-checked_mul.ensures.1) in
+    c.from_residual-in_err-value.ensures
+    ∙ sym (digits-over c.args.w.now l.value l.b-index c.in_ok-d.d c.loop-b-test.true c.in_ok-d.ensures.1 (omega (arith, c.in_ok-d.ensures.0, c.in_ok-d.ensures.1)) over) ∙ l.invariant
 
-pub loop-i-preserved : goal.loop-i-preserved
-loop-i-preserved c =
-    let w = c.args.w.now in
-    let v = c.loop-i.value in
-    let i = c.loop-i.i in
-    let d = decimal_of (get_or w i 0) in
-    let e = c.digit-d.ensures in
-    let from = digits_from w v i c.loop-i-test.true in
-    (search rules, c.loop-i.invariant.1 ∙ from ∙ rw (lt-ltb d 10 (omega (arith, e, c.if-d-gt9.false)), lt-ltb (v * 10 + d) (2 ^ 64) (omega (arith, e, c.if-d-gt9.false, c.if-d-value.false)), e))
+pub loop-b-preserved : goal.loop-b-preserved
+loop-b-preserved c =
+    let l = c.loop-b in
+    digits-more c.args.w.now l.value l.b-index c.in_ok-d.d _ c.loop-b-test.true c.in_ok-d.ensures.1 (omega (arith, c.in_ok-d.ensures.0, c.in_ok-d.ensures.1))
+    (omega (arith, c.in_ok-value.ensures.1, c.in_ok-checked_mul.ensures.1)) (omega (arith, c.in_ok-value.ensures.0, c.in_ok-value.ensures.1))
+    ∙ l.invariant
 
 pub returns : goal.returns
-returns c =
-    sym (c.loop-i.invariant.1 ∙ digits-past c.args.w.now c.loop-i.value c.loop-i.i (omega arith))
+returns c = sym (digits-past c.args.w.now c.loop-b.value c.loop-b.b-index (omega arith)) ∙ c.loop-b.invariant

@@ -1,18 +1,13 @@
 -- `trace_input_session::whole_to` meets its contract. Assumes nothing.
-use mathlib.Core.Path.{◌≡◌, refl, ap, sym, ◌∙◌}
-use borrow.Author.Tests.{not-true, not-false, eq-eqb, ne_eqb, lt-ltb, le-ltb}
-use Rattle.trace_input_session.specs.Words.{whole_to, whole_of}
-use borrow.Author.Rules.{rules}
+use mathlib.Core.Path.{sym, ◌∙◌}
+use Rattle.trace_input_session.proofs.Laws.{at_most-yes, at_most-no, at_most-none}
 use Rattle.trace_input_session.proofs.whole_to.Goals as goal
 
-pub returns-then-most-value : goal.returns-then-most-value
-unfolding whole_to
-returns-then-most-value c =
-    let e = c.whole-n.ensures in
-    c.no_whole.ensures ∙ sym (rw (sym e, lt-ltb _ _ c.if-most-value.true))
+pub returns-in-Some : goal.returns-in-Some
+returns-in-Some c = at_most-yes c.args.most _ c.args.w.now (sym c.whole.ensures ∙ c.in-Some.is) c.if-n-most.true
 
-pub returns : goal.returns
-unfolding whole_to
-returns c =
-    let e = c.whole-n.ensures in
-    sym (rw (sym e, le-ltb _ _ c.if-most-value.false))
+pub returns-in_default : goal.returns-in_default
+returns-in_default c = at_most-no c.args.most _ c.args.w.now (sym c.whole.ensures ∙ c.in-Some.is) c.if-n-most.false
+
+pub returns-in_default-2 : goal.returns-in_default-2
+returns-in_default-2 c = at_most-none c.args.most c.args.w.now (sym c.whole.ensures ∙ c.in_default.is)

@@ -1,8 +1,7 @@
 -- `trace_input_session::word` meets its contract. Assumes nothing.
-use mathlib.Core.Path.{◌≡◌, sym, ◌∙◌}
+use mathlib.Core.Path.{◌∙◌}
 use Rattle.trace_input_session.specs.Lines.{words_of}
 use Rattle.trace_input_session.proofs.Walks.{word_of}
-use borrow.Author.Rules.{rules}
 use Rattle.trace_input_session.proofs.word.Goals as goal
 
 pub returns : goal.returns

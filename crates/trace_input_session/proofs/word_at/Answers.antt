@@ -1,7 +1,6 @@
 -- `trace_input_session::word_at` meets its contract. Assumes nothing.
-use mathlib.Core.Path.{◌≡◌, sym, ◌∙◌}
+use mathlib.Core.Path.{◌∙◌}
 use Rattle.trace_input_session.proofs.Walks.{word-part}
-use borrow.Author.Rules.{rules}
 use Rattle.trace_input_session.proofs.word_at.Goals as goal
 
 pub returns : goal.returns

@@ -1,6 +1,5 @@
 -- `trace_output_show::digits` meets its contract. Assumes nothing.
 use Rattle.trace_output_show.specs.Glyphs.{glyphs_of}
-use Rattle.std.proofs.Common.{rules}
 use Rattle.trace_output_show.proofs.digits.Goals as goal
 
 pub returns : goal.returns

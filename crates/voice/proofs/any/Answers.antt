@@ -1,31 +1,15 @@
-use mathlib.Core.Path.{◌≡◌, refl, sym, ◌∙◌}
-use lib.ListN.{length}
-use native.Mathlib.Omega.{arith}
-use Rattle.config.specs.Sizes.{most_voices}
-use Rattle.voice.proofs.Counted.{any_here, any_next, any-end}
+-- `voice::any` meets its contract.
+use mathlib.Core.Path.{◌∙◌}
+use mathlib.Core.Bool.{Bool}
+use Rattle.std.proofs.Common.{tests}
+use Rattle.std.proofs.lemmas.Iterator.{YieldsList-from_slice}
+use Rattle.std.proofs.lemmas.Iterator.Search.{any_from_yields_List}
+use Rattle.voice.proofs.Counted.{any_of_any}
 use borrow.Author.Rules.{rules}
 use Rattle.voice.proofs.any.Goals as goal
 
-pub loop-v-init : goal.loop-v-init
-loop-v-init c = (omega arith, refl)
-
-pub returns-then-marks-v : goal.returns-then-marks-v
-returns-then-marks-v c =
-    let a = c.args in
-    let long : length a.marks ≡ most_voices = search rules in
-    let l = c.loop-v in
-    sym (l.invariant.1 ∙ any_here a.marks l.v (omega arith) c.if-marks-v.true)
-
-pub loop-v-preserved : goal.loop-v-preserved
-loop-v-preserved c =
-    let a = c.args in
-    let long : length a.marks ≡ most_voices = search rules in
-    let l = c.loop-v in
-    (omega arith, l.invariant.1 ∙ any_next a.marks l.v (omega arith) c.if-marks-v.false)
-
 pub returns : goal.returns
 returns c =
-    let a = c.args in
-    let long : length a.marks ≡ most_voices = search rules in
-    let l = c.loop-v in
-    sym (l.invariant.1 ∙ any-end a.marks l.v (omega arith))
+    let bs = c.args.marks in
+    any_from_yields_List (λ (b : Bool). b) _ _ _ c.any.ensures.ran (YieldsList-from_slice bs cc) (λ x b q k. search (rules, tests))
+    ∙ any_of_any bs

@@ -1,33 +1,15 @@
-use mathlib.Core.Path.{◌≡◌, refl, sym, ◌∙◌}
-use lib.ListN.{length}
-use native.Mathlib.Omega.{arith}
-use Rattle.list.proofs.Elements.{length-mapped}
-use Rattle.config.specs.Sizes.{most_voices}
-use Rattle.voice.proofs.Glides.{moving-here, moving-next, moving-end}
-use Rattle.voice.specs.Notes.{unread}
+-- `voice::any_moving` meets its contract.
+use mathlib.Core.Path.{◌∙◌}
+use Rattle.std.proofs.Common.{tests}
+use Rattle.std.proofs.lemmas.Iterator.{YieldsList-from_slice}
+use Rattle.std.proofs.lemmas.Iterator.Search.{any_from_yields_List}
+use Rattle.voice.specs.Notes.{moving}
+use Rattle.voice.proofs.Glides.{any_moving_any}
 use borrow.Author.Rules.{rules}
 use Rattle.voice.proofs.any_moving.Goals as goal
 
-pub loop-v-init : goal.loop-v-init
-loop-v-init c = (omega arith, refl)
-
-pub returns-then-is_moving : goal.returns-then-is_moving
-returns-then-is_moving c =
-    let a = c.args.glide in
-    let long : length a ≡ most_voices = search (rules, length-mapped) in
-    let l = c.loop-v in
-    sym (l.invariant.1 ∙ moving-here a l.v unread (omega arith) (sym c.is_moving.ensures ∙ c.if-is_moving.true))
-
-pub loop-v-preserved : goal.loop-v-preserved
-loop-v-preserved c =
-    let a = c.args.glide in
-    let long : length a ≡ most_voices = search (rules, length-mapped) in
-    let l = c.loop-v in
-    (omega arith, l.invariant.1 ∙ moving-next a l.v unread (omega arith) (sym c.is_moving.ensures ∙ c.if-is_moving.false))
-
 pub returns : goal.returns
 returns c =
-    let a = c.args.glide in
-    let long : length a ≡ most_voices = search (rules, length-mapped) in
-    let l = c.loop-v in
-    sym (l.invariant.1 ∙ moving-end a l.v unread (omega arith))
+    let gs = c.args.glide in
+    any_from_yields_List moving _ _ _ c.any.ensures.ran (YieldsList-from_slice gs cc) (λ x b q k. search (rules, tests))
+    ∙ any_moving_any gs

@@ -13,7 +13,7 @@ loop-v-init c = (omega arith, filled_none _ _)
 pub loop-v-preserved : goal.loop-v-preserved
 loop-v-preserved c =
     let l = c.loop-v in
-    (omega arith, filled_more l.invariant.1 (c.or.ensures ∙ rw (filled-read false l.invariant.1)))
+    (omega arith, filled_more l.invariant.1 (rw (filled-read false l.invariant.1)))
 
 pub returns : goal.returns
 returns c =

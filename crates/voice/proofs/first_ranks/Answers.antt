@@ -8,9 +8,6 @@ use Rattle.voice.proofs.first_ranks.Goals as goal
 pub loop-k-init : goal.loop-k-init
 loop-k-init c = (omega arith, filled_none _ _)
 
-pub bounds-out-k : goal.bounds-out-k
-bounds-out-k c = omega (arith, c.loop-k.invariant.1.as_long)
-
 pub loop-k-preserved : goal.loop-k-preserved
 loop-k-preserved c = (omega arith, filled_more c.loop-k.invariant.1 refl)
 

@@ -1,5 +1,5 @@
 -- `replay_edits::listed::same_slots` is safe and ends. Assumes nothing.
-use Rattle.std.proofs.Common.{◌≡◌, ◌-◌, ◌≤◌, length, arith, rules}
+use Rattle.std.proofs.Common.{◌≡◌, ◌-◌, ◌≤◌, length}
 use Rattle.config.specs.Sizes.{slots}
 use Rattle.replay_edits.proofs.listed.same_slots.Given as goal
 

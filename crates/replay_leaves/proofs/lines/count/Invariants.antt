@@ -1,8 +1,6 @@
 -- `replay_leaves::lines::count` meets its contract: there are no more lines that differ than bytes passed.
 use Prim.Native.Nat.{◌≤◌, ◌<◌, ◌-◌}
-use native.Mathlib.Omega.{arith}
 use lib.ListN.{length}
-use borrow.Author.Rules.{rules}
 use Rattle.replay_leaves.proofs.lines.count.Given as goal
 
 abbrev pub invariant-loop-at : goal.invariant-loop-at

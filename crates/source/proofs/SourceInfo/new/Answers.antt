@@ -2,4 +2,4 @@
 use Rattle.source.proofs.SourceInfo.new.Goals as goal
 
 pub returns : goal.returns
-returns c = rw (c.usual_scope-scope.ensures, c.usual_range-range.ensures)
+returns c = rw (c.usual_scope.ensures, c.usual_range.ensures)

@@ -1,4 +1,4 @@
-use Rattle.std.proofs.Common.{ℕ, ◌-◌, ◌≤◌, length, arith, rules}
+use Rattle.std.proofs.Common.{arith}
 use Rattle.trace_lines_answer.proofs.absent.fields.Goals as goal
 
 pub loop-p-smaller : goal.loop-p-smaller

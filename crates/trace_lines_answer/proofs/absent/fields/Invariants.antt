@@ -1,5 +1,5 @@
 -- `trace_lines_answer::absent::fields` is safe and ends. Assumes nothing.
-use Rattle.std.proofs.Common.{ℕ, ◌-◌, ◌≤◌, length, arith, rules}
+use Rattle.std.proofs.Common.{◌-◌, ◌≤◌, length}
 use Rattle.trace_lines_answer.proofs.absent.fields.Given as goal
 
 abbrev pub invariant-loop-p : goal.invariant-loop-p

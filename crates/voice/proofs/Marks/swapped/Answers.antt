@@ -4,4 +4,4 @@ use Rattle.voice.proofs.Marks.swapped.Goals as goal
 
 pub returns : goal.returns
 unfolding marks_swapped
-returns c = cc (c.or-2.ensures, c.either-2.ensures, c.or.ensures, c.either.ensures, c.any-some.ensures)
+returns c = cc (c.either-2.ensures, c.either.ensures, c.any-some.ensures)

@@ -1,9 +1,0 @@
--- `engine_settings::either_gains` meets its contract.
-use borrow.Author.Tests.{ne_eqb}
-use Rattle.engine_settings.proofs.either_gains.Goals as goal
-
-pub returns-then-code-ne0 : goal.returns-then-code-ne0
-returns-then-code-ne0 c = rw (ne_eqb _ 0 c.if-code-ne0.true)
-
-pub returns : goal.returns
-returns c = rw c.if-code-ne0.false

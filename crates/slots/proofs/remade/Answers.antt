@@ -1,8 +1,0 @@
--- `slots::remade` meets its contract.
-use borrow.Author.Rules.{rules}
-use Rattle.slots.specs.Slots.{with_polarity, with_aux, with_source_curve, with_aux_curve}
-use Rattle.slots.proofs.remade.Goals as goal
-
-pub returns : goal.returns
-unfolding with_polarity with_aux with_source_curve with_aux_curve
-returns c = search rules

@@ -1,8 +1,0 @@
--- `voice::stopped` meets its contract.
-use mathlib.Core.Path.{refl}
-use lib.Ieee.{of_bits}
-use Rattle.voice.proofs.stopped.Goals as goal
-
-pub returns : goal.returns
-unfolding of_bits
-returns c = refl
