@@ -731,8 +731,9 @@ fn run(
     small_of(next)
 }
 
-// What has moved of the state after an accepted call: an empty range moves nothing.
+// What has moved of the state once a call that was judged so is answered: a refused one and an empty range move nothing.
 pub fn answered(
+    judged: Result<(), Refusal>,
     state: State,
     held: &mut [f32],
     globals: &mut [f32],
@@ -745,14 +746,17 @@ pub fn answered(
     start: usize,
     end: usize,
 ) -> Small
-    requires { Room state (length held.old) (length values.old) (length audio.old)
+    requires { code_of judged ≡ 0 → Room state (length held.old) (length values.old) (length audio.old)
         × (engine_sources state ≤ length globals.old) × (end ≤ frame_count state) }
     ensures { world_of (with_small state result) held.new globals.new bases.now
         values.new audio.new tables.now
-        ≡ answered_world 0 samples.now signals start end (world_of state held.old
+        ≡ answered_world (code_of judged) samples.now signals start end (world_of state held.old
         globals.old bases.now values.old audio.old
         tables.now) }
 {
+    if judged.is_err() {
+        return small_of(state);
+    }
     if end <= start {
         return small_of(state);
     }

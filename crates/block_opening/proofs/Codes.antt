@@ -39,6 +39,29 @@ pub any_outside_any : (n : ℕ) (parts : List SignalPart) → list_any (outside 
 any_outside_any n [] = refl
 any_outside_any n (p ∷ ps) = ap (λ r. outside n p || r) (any_outside_any n ps) ∙ sym (out-two (ltb n p.at) (ltb (n - p.at) p.len) (any_outside n ps))
 
+-- ---- three tests of lengths, one after the other
+
+module _ (a b : ℕ) (x y : ℕ) (u : Bool) where
+  pub short-first : (p : ℕ) → p ≡ x → a < p → true ≡ (ltb a x || (ltb b y || u))
+  short-first p e h = rw (lt-ltb a x (omega arith))
+
+  pub short-second : (p q : ℕ) → p ≡ x → p ≤ a → q ≡ y → b < q → true ≡ (ltb a x || (ltb b y || u))
+  short-second p q e h f k = rw (le-ltb a x (omega arith), lt-ltb b y (omega arith))
+
+  pub short-third : (p q : ℕ) (t : Bool) → p ≡ x → p ≤ a → q ≡ y → q ≤ b → t ≡ u → t ≡ (ltb a x || (ltb b y || u))
+  short-third p q t e h f k g = rw (le-ltb a x (omega arith), le-ltb b y (omega arith)) g
+
+module _ (n : Counts) (l : Lengths) (p : ℕ) where
+  pub engine-first : p ≡ held_need n.voices n.sources → l.held < p → true ≡ engine_short_by n l
+  unfolding engine_short_by
+  engine-first e h =
+      short-first l.held l.globals (held_need n.voices n.sources) (min n.sources most_sources) (ltb l.bases (min n.dests most_destinations)) p e h
+
+  pub program-first : p ≡ values_by n → l.values < p → true ≡ program_short_by n l
+  unfolding program_short_by
+  program-first e h =
+      short-first l.values l.audio (values_by n) (audio_by n) (ltb l.tables (cond n.tabled tables_need 0)) p e h
+
 -- ---- the judgement, row by row
 
 module _ (n : Counts) (l : Lengths) (parts : List SignalPart) (end : ℕ) where

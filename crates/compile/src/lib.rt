@@ -149,7 +149,8 @@ pub fn compiled(matrix: Matrix, sources: Sources, dests: Destinations, config: C
     let used = compile_feeds::used_dests(sources, dests, &candidates);
     let readers = compile_feeds::readers(&used, &candidates);
     let planned = compile_order::plan_order(&used, &readers);
-    let order = &planned.order;
+    let listed = compile_order::numbers(&planned);
+    let order = &listed;
     let plans = plans(sources, dests, &candidates, &readers, order);
     let routes = routes(config.sample_rate, sources, dests, slot, &readers, order);
     let left_out = compile_candidates::skips(&verdict);

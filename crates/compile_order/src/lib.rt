@@ -1,5 +1,5 @@
 // The order of plans (document 01, Plan and route; program.rs 350-372). The definitions are in model's specs/Feeds and,
-// over lists in arrays, in specs/Marks.
+// over lists, in specs/Marks.
 #![tactic(auto)]
 
 ghost use Rattle.std.specs.Prelude.{◌≡◌, ◌≤◌, false, ◌&&◌, map, eqb, get_or, take, replicate, length};
@@ -14,11 +14,13 @@ use feed::{Order, PAIRS};
 use state::{FedBy, Reader, Used};
 use state_filled::List;
 
-// How many plans are control plans, and the destinations of all plans in their order.
-#[derive(Drop)]
+// How many plans are control plans, and the destinations of all plans in their order: the first `count` of `order`.
+// No `List`, since that is not Copy.
+#[derive(Clone, Copy)]
 pub struct PlanOrder {
     pub control: usize,
-    pub order: List<u16>,
+    pub count: usize,
+    pub order: [u16; SLOTS],
 }
 
 // ---- control and audio
@@ -121,7 +123,7 @@ fn at_places(list: &[u16], order: &Order) -> List<u16>
 // the order of the plans
 pub fn plan_order(used: &List<Used>, readers: &[Reader]) -> PlanOrder
     ensures control { result.control ≡ length (rated_as false used.now.items) }
-    ensures order { result.order.items ≡ order_in used.now.items readers.now }
+    ensures order { take result.count result.order ≡ order_in used.now.items readers.now }
 {
     let control = rated(used, false);
     let feeds = marks(readers, &control);
@@ -130,6 +132,18 @@ pub fn plan_order(used: &List<Used>, readers: &[Reader]) -> PlanOrder
     out.try_extend_from_slice(&rated(used, true)).unwrap();
     PlanOrder {
         control: control.len(),
-        order: out,
+        count: out.len(),
+        order: state_filled::padded(&out, 0),
     }
+}
+
+// its destinations as a list
+pub fn numbers(order: &PlanOrder) -> List<u16>
+    ensures { result.items ≡ take order.now.count order.now.order }
+{
+    let mut out = List::new();
+    for k in 0..order.count.min(SLOTS) {
+        state_filled::add(&mut out, order.order[k]);
+    }
+    out
 }

@@ -7,6 +7,7 @@ use lib.ListN.{length, get_or}
 use lib.Ieee.{Float, nan}
 use Rattle.std.specs.declared.result.Result.TheVariants.{Err}
 use borrow.Author.Tests.{eq-eqb, ne_eqb}
+use Rattle.number.specs.Number.{zero32}
 use Rattle.refusal.specs.Refusal.{number_of}
 use Rattle.refusal.specs.declared.Refusal.{Refusal}
 use Rattle.refusal.proofs.Laws.{number-above}
@@ -21,18 +22,28 @@ pub lookup-accepted : (t : List Float) (x : Float) → table_code t ≡ 0 → lo
 unfolding lookup_call
 lookup-accepted t x h = simp (eq-eqb _ _ h)
 
-pub lookup-refused : (t : List Float) (x : Float) (r : Refusal) → number_of r ≡ table_code t → lookup_call t x ≡ looked_said (Err r)
+pub lookup-refused : (t : List Float) (x : Float) → (table_code t ≡ 0 → ⊥) → lookup_call t x ≡ record { code = table_code t; value = zero32 }
 unfolding lookup_call
-lookup-refused t x r e = rw (ne_eqb (table_code t) 0 (λ z. omega (arith, number-above r)), e)
+lookup-refused t x h = simp (ne_eqb _ _ h)
+
+-- as a Result says it
+pub lookup-refused-by : (t : List Float) (x : Float) (r : Refusal) → number_of r ≡ table_code t → lookup_call t x ≡ looked_said (Err r)
+unfolding lookup_call
+lookup-refused-by t x r e = rw (ne_eqb (table_code t) 0 (λ z. omega (arith, number-above r)), e)
 
 -- a curve that is accepted has its seconds; one that is refused gives its row and 0
 pub slew-accepted : (c : Curve) → curve_code c ≡ 0 → slew_call c ≡ record { code = 0; seconds = seconds_of c }
 unfolding slew_call
 slew-accepted c h = simp (eq-eqb _ _ h)
 
-pub slew-refused : (c : Curve) (r : Refusal) → number_of r ≡ curve_code c → slew_call c ≡ slewed_said (Err r)
+pub slew-refused : (c : Curve) → (curve_code c ≡ 0 → ⊥) → slew_call c ≡ record { code = curve_code c; seconds = record { rise = zero32; fall = zero32 } }
 unfolding slew_call
-slew-refused c r e = rw (ne_eqb (curve_code c) 0 (λ z. omega (arith, number-above r)), e)
+slew-refused c h = simp (ne_eqb _ _ h)
+
+-- as a Result says it
+pub slew-refused-by : (c : Curve) (r : Refusal) → number_of r ≡ curve_code c → slew_call c ≡ slewed_said (Err r)
+unfolding slew_call
+slew-refused-by c r e = rw (ne_eqb (curve_code c) 0 (λ z. omega (arith, number-above r)), e)
 
 -- the diagonal has 513 numbers, and i / 512 at i
 pub length-diagonal : length diagonal_table ≡ points

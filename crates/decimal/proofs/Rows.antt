@@ -87,6 +87,18 @@ pub none_after : (w : List ℕ) → length w ≤ 0 → w ≡ drop 1 w
 none_after [] h = refl
 none_after (b ∷ w) h = absurd (omega arith)
 
+pub unsigned-plus : (w : List ℕ) → lead w ≡ 43 → unsigned w ≡ drop 1 w
+unfolding unsigned is_sign
+unsigned-plus w h = rw h
+
+pub unsigned-minus : (w : List ℕ) → lead w ≡ 45 → unsigned w ≡ drop 1 w
+unfolding unsigned is_sign
+unsigned-minus w h = rw h
+
+pub unsigned-none : (w : List ℕ) → (lead w ≡ 43 → ⊥) → (lead w ≡ 45 → ⊥) → unsigned w ≡ w
+unfolding unsigned is_sign
+unsigned-none w h k = rw (ne_eqb (lead w) 43 h, ne_eqb (lead w) 45 k)
+
 pub after_point-yes : (w : List ℕ) → has_point w ≡ true → after_point w ≡ drop 1 (rest w)
 unfolding after_point
 after_point-yes w h = rw h

@@ -18,6 +18,9 @@ use Rattle.decimal.specs.Decimal.{run, is_minus, after_point, power, digits, exp
 pub next-ten : (m i : ℕ) → m * 10 ^ i * 10 ≡ m * 10 ^ (i + 1)
 next-ten m i = mul_assoc m (10 ^ i) 10 ∙ ap (λ (z : ℕ). m * z) (sym (pow-suc 10 i) ∙ ap (λ (z : ℕ). 10 ^ z) (sym (add-one i)))
 
+pub next-five : (i : ℕ) → 5 ^ i * 5 ≡ 5 ^ (i + 1)
+next-five i = sym (pow-suc 5 i) ∙ ap (λ (z : ℕ). 5 ^ z) (sym (add-one i))
+
 pub next-two : (d i : ℕ) → d * 2 ^ i * 2 ≡ d * 2 ^ (i + 1)
 next-two d i = mul_assoc d (2 ^ i) 2 ∙ ap (λ (z : ℕ). d * z) (sym (pow-suc 2 i) ∙ ap (λ (z : ℕ). 2 ^ z) (sym (add-one i)))
 

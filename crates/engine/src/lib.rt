@@ -466,14 +466,15 @@ impl Engine {
     {
         let state = self.state;
         let config = state.config;
-        engine_notes::code(
+        let judged = engine_notes::code(
             engine_notes::no_voice(config.voices, voice),
             number::is_finite(release_velocity),
             engine_notes::held_short(held.len(), state.sources, config.voices),
-        )?;
+        );
         let mark = state.mark;
         let lane = engine_notes::lane_of(state.sources, config.voices, voice);
-        engine_notes::released(held, mark, lane, release_velocity);
+        engine_notes::released(judged, held, mark, lane, release_velocity);
+        judged?;
         Ok(self)
     }
 
@@ -486,11 +487,11 @@ impl Engine {
     {
         let mut state = self.state;
         let config = state.config;
-        engine_notes::code(
+        let judged = engine_notes::code(
             engine_notes::no_voice(config.voices, voice),
             true,
             engine_notes::held_short(held.len(), state.sources, config.voices),
-        )?;
+        );
         let voices = state.voices;
         let marks = state.marks;
         let velocity = state.velocity;
@@ -503,7 +504,7 @@ impl Engine {
             alternate: state.alternate,
             draw: state.draw,
         };
-        let next = engine_notes::ended(sounding, voice);
+        let next = engine_notes::ended(judged, sounding, voice);
         let voices_next = next.voices;
         state.voices = voices_next;
         let marks_next = next.marks;
@@ -512,6 +513,7 @@ impl Engine {
         state.velocity = velocity_next;
         let key_next = next.key;
         state.key = key_next;
+        judged?;
         Ok(Engine { state })
     }
 
@@ -580,9 +582,10 @@ impl Engine {
             tables: tables.len(),
             samples: samples.len(),
         };
-        block::code(state, lent, signals, end)?;
+        let judged = block::code(state, lent, signals, end);
         let small = block::answered(
-            state, held, globals, bases, values, audio, tables, samples, signals, start, end,
+            judged, state, held, globals, bases, values, audio, tables, samples, signals, start,
+            end,
         );
         state.primed = small.primed;
         state.draw = small.draw;
@@ -595,6 +598,7 @@ impl Engine {
         state.marks = marks;
         let last = small.block;
         state.block = last;
+        judged?;
         Ok(Engine { state })
     }
 }

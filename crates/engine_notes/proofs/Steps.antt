@@ -24,6 +24,11 @@ set_past [] i x h = refl
 set_past (y ∷ l) zero x h = absurd (not-suc-le-zero h)
 set_past (y ∷ l) (suc i) x h = ap (λ (r : List _). y ∷ r) (set_past l i x (le_of_suc-le-suc h))
 
+-- no list is shorter than 0
+pub none-short : (n : ℕ) → ltb n 0 ≡ false
+none-short zero = refl
+none-short (suc n) = le-ltb (suc n) 0 (omega arith)
+
 module _ (marks : List SourceMark) (lane : Lane) (i k p : ℕ) (kind-is : k ≡ kind_at marks i) (place_is : p ≡ place_in lane i) where
   pub held_next : (kind : ℕ) (x : Float) (first m m' : List Float) → m ≡ held_in marks lane kind x i first → m' ≡ cond (eqb k kind) (set m p x) m
       → m' ≡ held_in marks lane kind x (i + 1) first

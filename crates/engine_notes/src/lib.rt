@@ -446,7 +446,7 @@ pub fn note_on(
 }
 
 // A voice stops sounding.
-pub fn ended(sounding: Sounding, voice: usize) -> Sounding
+fn stopped(sounding: Sounding, voice: usize) -> Sounding
     ensures { result ≡ sound_ended sounding voice }
 {
     let voices = sounding.voices;
@@ -463,10 +463,32 @@ pub fn ended(sounding: Sounding, voice: usize) -> Sounding
     }
 }
 
+// ---- a call that was judged so: it does something where it is accepted
+
 // The release velocity of the lane's note.
-pub fn released(held: &mut [f32], mark: [SourceMark; SOURCES], lane: Lane, x: f32)
-    requires { Inside lane }
-    ensures { held.new ≡ held_in mark lane 3 x lane.sources held.old }
+pub fn released(
+    judged: Result<(), Refusal>,
+    held: &mut [f32],
+    mark: [SourceMark; SOURCES],
+    lane: Lane,
+    x: f32,
+)
+    requires { code_of judged ≡ 0 → Inside lane }
+    ensures { held.new ≡ cond (eqb (code_of judged) 0) (held_in mark lane 3 x lane.sources held.old)
+        held.old }
 {
+    if judged.is_err() {
+        return;
+    }
     write_kind(held, mark, lane, RELEASE, x);
+}
+
+// What sounds once the voice has stopped.
+pub fn ended(judged: Result<(), Refusal>, sounding: Sounding, voice: usize) -> Sounding
+    ensures { result ≡ cond (eqb (code_of judged) 0) (sound_ended sounding voice) sounding }
+{
+    if judged.is_err() {
+        return sounding;
+    }
+    stopped(sounding, voice)
 }

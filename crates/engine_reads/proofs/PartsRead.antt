@@ -21,6 +21,10 @@ same-part m p q = rw (p, q)
 abbrev pub parted : ℕ → List Float → Parted
 parted n xs = record { code = n; numbers = xs }
 
+-- a part and a number, by what they are
+pub both : {n : ℕ} {xs ys : List Float} {p : Parted} → xs ≡ ys → p ≡ parted n ys → (xs ≡ p.numbers) × (n ≡ p.code)
+both q e = (q ∙ sym (ap (λ (z : Parted). z.numbers) e), sym (ap (λ (z : Parted). z.code) e))
+
 -- a part that is handed out, by what it is
 pub said : {xs ys : List Float} {p : Parted} → xs ≡ ys → p ≡ parted 0 ys → parted 0 xs ≡ p
 said q e = ap (parted 0) q ∙ sym e

@@ -431,6 +431,9 @@ pub fn latest(
 // the row of a short memory
 const SHORT: Refusal = Refusal::Memory;
 
+// what is read of one
+const SHORT_PART: Result<&[f32], Refusal> = Err(SHORT);
+
 // nothing of a memory
 fn none(mem: &[f32]) -> &[f32]
     ensures { result.now ≡ [] }
@@ -443,7 +446,7 @@ pub fn audio_part<'a>(state: State, audio: &'a [f32], dest: usize) -> Result<&'a
     ensures { part_said result ≡ audio_part state audio.now dest }
 {
     if audio_short(state, audio.len()) {
-        return Err(SHORT);
+        return SHORT_PART;
     }
     let spot = spot_of(state, dest);
     if !spot.audio {
@@ -471,7 +474,7 @@ pub fn audio_frame<'a>(
     ensures { part_said result ≡ frame_part state audio.now dest frame }
 {
     if audio_short(state, audio.len()) {
-        return Err(SHORT);
+        return SHORT_PART;
     }
     let spot = spot_of(state, dest);
     if !spot.audio {
@@ -490,7 +493,7 @@ pub fn from_part<'a>(state: State, values: &'a [f32], dest: usize) -> Result<&'a
     ensures { part_said result ≡ from_part state values.now dest }
 {
     if values_short(state, values.len()) {
-        return Err(SHORT);
+        return SHORT_PART;
     }
     let spot = spot_of(state, dest);
     if !spot.control {
@@ -504,7 +507,7 @@ pub fn to_part<'a>(state: State, values: &'a [f32], dest: usize) -> Result<&'a [
     ensures { part_said result ≡ to_part state values.now dest }
 {
     if values_short(state, values.len()) {
-        return Err(SHORT);
+        return SHORT_PART;
     }
     let spot = spot_of(state, dest);
     if !spot.control {

@@ -28,11 +28,12 @@ use Rattle.matrix_sorting.specs.Moved.{slots_at, moved_tables}
 use Rattle.slots.specs.Matrix.{with_slots, with_slot}
 use Rattle.slots_tables.specs.Rows.{finite_row, table_rows}
 use Rattle.matrix.specs.Edits.{slot_row, answered, placed, tabled, sorted_from, matrix_allowed, sort_slots, load_matrix}
-use Rattle.matrix_editing.specs.Drag.{both_finite, polarity_at, depth_at}
+use Rattle.slots.specs.Slots.{first_empty, route_slot, kept_amount}
+use Rattle.matrix_editing.specs.Drag.{both_finite, polarity_at, depth_at, dragged_amount}
 use Rattle.state.specs.declared.Target.{Target}
 use Rattle.state.specs.declared.Polarity.{Polarity}
 use Rattle.state.specs.declared.Polarity.TheVariants as L
-use Rattle.matrix.specs.Routes.{add_vibrato, create_vibrato, drag_polarity, limit_depth}
+use Rattle.matrix.specs.Routes.{drag_route, add_vibrato, create_vibrato, drag_polarity, limit_depth}
 use Rattle.matrix.specs.Place as P
 use Rattle.matrix.specs.Answers.{Placed, PolarityMade, Depth, Edited}
 use Rattle.matrix.specs.declared.SortBy.{SortBy}
@@ -99,9 +100,16 @@ finite-accepted b e = not-false b (passes-here (not b) 6 tt e)
 
 -- ---- answers with tables
 
-pub tabled-refused : (code : ℕ) (r : Refusal) (m next : Matrix) (t w : List Float) → number_of r ≡ code → (edited_said m (Err r) ≡ (tabled code m next t w).answer) × (t ≡ (tabled code m next t w).tables)
+pub tabled-refused : (code k : ℕ) (m next : Matrix) (t w : List Float) → k ≡ code → (k ≡ 0 → ⊥) → (◌≡◌ {A = Edited} (record { code = k; matrix = m }) (tabled code m next t w).answer) × (t ≡ (tabled code m next t w).tables)
+unfolding tabled answered
+tabled-refused code k m next t w e ne =
+    let no : eqb code 0 ≡ false = ne_eqb code 0 (λ z. ne (e ∙ z)) in
+    (simp (no, e), simp no)
+
+-- as a Result says it
+pub tabled-refused-by : (code : ℕ) (r : Refusal) (m next : Matrix) (t w : List Float) → number_of r ≡ code → (edited_said m (Err r) ≡ (tabled code m next t w).answer) × (t ≡ (tabled code m next t w).tables)
 unfolding tabled
-tabled-refused code r m next t w e = (edited-refused code r m next e, simp (not-none r code e))
+tabled-refused-by code r m next t w e = (edited-refused code r m next e, simp (not-none r code e))
 
 pub tabled-accepted : (code : ℕ) (m next : Matrix) (t w : List Float) → 0 ≡ code → (edited_said m (Ok next) ≡ (tabled code m next t w).answer) × (w ≡ (tabled code m next t w).tables)
 unfolding tabled
@@ -184,6 +192,13 @@ module _ (m : Matrix) (lfos : List ℕ) (wheel : ℕ) (t : Target) (x : Float) w
   vibrato-made lfo r f e q =
       let found = free-found lfos m.slot lfo e in
       rw (f, found.0, ← found.1) q
+
+-- a drag, step by step
+pub drag-made : (m : Matrix) (source : ℕ) (t : Target) (at x : Float) (toggle limit : Bool) (b : Bool) (code : ℕ) (p : Polarity) (d k : Float) (s : Slot) (i : ℕ)
+    → b ≡ both_finite at x → code ≡ judged (finite_row b ∷ []) → p ≡ polarity_at at toggle → d ≡ dragged_amount at p x limit → k ≡ kept_amount d
+    → s ≡ route_slot source t k p → i ≡ first_empty m.slot → placed code m i s ≡ drag_route m source t at x toggle limit
+unfolding drag_route
+drag-made m source t at x toggle limit b code p d k s i eb ec ep ed ek es ei = rw (ec, eb, ei, es, ek, ed, ep)
 
 pub polarity-refused : (at : Float) (b : Bool) → finite at ≡ false → ◌≡◌ {A = PolarityMade} (record { code = 6; polarity = L.Unipolar }) (drag_polarity at b)
 unfolding drag_polarity

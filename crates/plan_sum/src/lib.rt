@@ -1107,6 +1107,8 @@ pub fn tick_begun(
 }
 
 // what the others are added to, where `old` stands in the row and a route may be plain: at a tick the base does
+// Inline: a job is large, and would be copied for each of the two callers.
+#[inline(always)]
 fn audio_plains(
     job: Job,
     base: f32,

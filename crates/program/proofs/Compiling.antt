@@ -79,14 +79,15 @@ module _ (w : Wiring) (tables : List Float) (l : Memories) where
   refused-by code h e = by_code code e ∙ simp (ne_eqb code 0 h)
 
   -- rows 6 and 13
-  pub compile-early : (r : Refusal) → number_of r ≡ early_code w.matrix tables w.config → compile w tables l ≡ record { answer = compiled_said (Err r); lent = l }
-  compile-early r e =
+  pub compile-early : (code : ℕ) → early_code w.matrix tables w.config ≡ code → code ≢ 0 → compile w tables l ≡ record { answer = refusal code; lent = l }
+  compile-early code e h =
+      refused-by code h (code_is ∙ ap (λ (n : ℕ). first_of n (judged (14 when short ∷ []))) e ∙ first_of-code code (judged (14 when short ∷ [])) h)
+
+  -- as a Result says it
+  pub compile-early-by : (r : Refusal) → number_of r ≡ early_code w.matrix tables w.config → compile w tables l ≡ record { answer = compiled_said (Err r); lent = l }
+  compile-early-by r e =
       let above : 0 < number_of r = number-above r in
-      let ne : number_of r ≢ 0 = λ z. omega (arith, z) in
-      refused-by (number_of r) ne
-      (code_is
-      ∙ ap (λ (n : ℕ). first_of n (judged (14 when short ∷ []))) (sym e)
-      ∙ first_of-code (number_of r) (judged (14 when short ∷ [])) ne)
+      compile-early (number_of r) (sym e) (λ z. omega (arith, z))
 
   late : early_code w.matrix tables w.config ≡ 0 → judged (compile_rows w tables l) ≡ judged (14 when short ∷ [])
   late e = code_is ∙ ap (λ (n : ℕ). first_of n (judged (14 when short ∷ []))) e ∙ first_of-zero (judged (14 when short ∷ []))

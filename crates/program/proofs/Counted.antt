@@ -9,12 +9,18 @@ use Rattle.refusal.proofs.Laws.{number-above}
 use Rattle.program.specs.Answers.{Count, count_said}
 use Rattle.program.specs.Sizes.{counted}
 
-none-counted : (k n : ℕ) → 0 < k → ◌≡◌ {A = Count} (record { code = k; n = 0 }) (counted k n)
-none-counted zero n h = absurd (omega (arith, h))
-none-counted (suc k) n h = refl
+pub refused : {r k : ℕ} (n : ℕ) → r ≡ k → (r ≡ 0 → ⊥) → ◌≡◌ {A = Count} (record { code = r; n = 0 }) (counted k n)
+refused {r} {k} n e h = rw (← e) (go r h)
+  where
+    go : (j : ℕ) → (j ≡ 0 → ⊥) → ◌≡◌ {A = Count} (record { code = j; n = 0 }) (counted j n)
+    go zero h = absurd (h refl)
+    go (suc j) h = refl
 
-pub refused : {k : ℕ} (r : Refusal) (n : ℕ) → number_of r ≡ k → count_said (Err r) ≡ counted k n
-refused r n e = rw (← e) (none-counted (number_of r) n (number-above r))
+-- as a Result says it
+pub refused-by : {k : ℕ} (r : Refusal) (n : ℕ) → number_of r ≡ k → count_said (Err r) ≡ counted k n
+refused-by r n e =
+    let above : 0 < number_of r = number-above r in
+    refused n e (λ z. omega (arith, z))
 
 pub accepted : {k m n : ℕ} → 0 ≡ k → m ≡ n → count_said (Ok m) ≡ counted k n
 accepted e h = rw (← e, h)

@@ -1,7 +1,7 @@
 -- What the judgement of rows says of them. Assumes nothing.
 use mathlib.Core.Path.{◌≡◌, refl, sym, ap, ◌∙◌}
 use mathlib.Core.Logic.{◌≢◌, ⊎_elim}
-use mathlib.Core.Bool.{Bool, true, false, ◌&&◌}
+use mathlib.Core.Bool.{Bool, true, false, ◌&&◌, true≢false}
 use mathlib.Core.List.Memᴰ
 use mathlib.Core.List.{List, [], ◌∷◌, ◌++◌, Memᴰ}
 use Prim.Native.Nat.{ℕ, zero, suc, ◌≤◌, ◌<◌}
@@ -10,7 +10,9 @@ use native.Mathlib.Omega.{arith}
 use lib.Dec.{T, leb, ltb, leb→le, ltb→lt}
 use Rattle.list.proofs.Bools.{which}
 use Rattle.refusal.specs.Judge.{Row, ◌when◌, judged, first_of, numbered, ascends_from, ascends, NoneApplies, First}
-use Rattle.refusal.specs.Refusal.{number_of}
+use Rattle.std.specs.Prelude.{Result, Ok, Err}
+use Rattle.std.specs.Result.{is_err}
+use Rattle.refusal.specs.Refusal.{number_of, code_of}
 use Rattle.refusal.specs.declared.Refusal.{Refusal}
 use Rattle.refusal.specs.declared.Refusal.TheVariants as R
 
@@ -161,7 +163,7 @@ judged-skip [] ss h = refl
 judged-skip (r ∷ rs) ss h =
     judged-passed r (rs ++ ss) (h r (Memᴰ.head refl)) ∙ judged-skip rs ss (λ x m. h x (Memᴰ.tail m))
 
--- a row before others, as `first` of what `row` gives and of the others' answer
+-- a row before others: its number, or the others' answer where it is 0
 pub judged-row : (n : ℕ) (t : Bool) (rs : List Row) → T (ltb 0 n) → judged (n when t ∷ rs) ≡ first_of (judged (n when t ∷ [])) (judged rs)
 judged-row n t rs h = judged-append (n when t ∷ []) rs (and_both (ltb 0 n) true h tt)
 
@@ -184,6 +186,15 @@ number-above R.Full = omega arith
 number-above R.Range = omega arith
 number-above R.Memory = omega arith
 number-above R.Length = omega arith
+
+-- an answer that is a refusal has a number other than 0, and any other answer has 0
+pub err-taken : {A : Type 0} (r : Result A Refusal) → is_err r ≡ true → code_of r ≢ 0
+err-taken (Ok a) e z = true≢false (sym e)
+err-taken (Err x) e z = let above : 0 < number_of x = number-above x in omega arith
+
+pub ok-none : {A : Type 0} (r : Result A Refusal) → is_err r ≡ false → code_of r ≡ 0
+ok-none (Ok a) e = refl
+ok-none (Err x) e = absurd (true≢false e)
 
 -- rows of which the first refuses
 pub judged-refused : (rs ss : List Row) (r : Refusal) → T (numbered rs) → number_of r ≡ judged rs → judged (rs ++ ss) ≡ number_of r

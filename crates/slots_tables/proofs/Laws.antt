@@ -1,6 +1,6 @@
 -- Laws that proofs cite in place of the definitions' text. Assumes nothing.
 use mathlib.Core.Path.{◌≡◌, refl, sym, ap, ◌∙◌}
-use mathlib.Core.Bool.{true, false, ◌&&◌, ◌||◌}
+use mathlib.Core.Bool.{Bool, true, false, not, ◌&&◌, ◌||◌}
 use mathlib.Core.List.{List}
 use Prim.Native.Nat.{ℕ, ◌+◌, ◌-◌, ◌*◌, ◌≤◌, ◌<◌}
 use native.Mathlib.Numerals.{add-one}
@@ -12,7 +12,7 @@ use Rattle.list.specs.Part.{part}
 use Rattle.list.specs.Rows.{row_at}
 use Rattle.curve_table.specs.Table.{points, all_allowed}
 use Rattle.state.specs.declared.Slot.{Slot}
-use Rattle.slots_tables.specs.Tables.{slot_names, any_names, place_allowed, slot_allowed, slots_allowed}
+use Rattle.slots_tables.specs.Tables.{slot_names, any_names, place_allowed, allowed_where, slot_allowed, slots_allowed}
 
 -- ---- what a walk over the slots finds from slot i on
 
@@ -31,6 +31,14 @@ allowed-from t l i d h = rw (add-one, drop-cons l i d)
 pub allowed-past : (t : List Float) (l : List Slot) (i : ℕ) → length l ≤ i → slots_allowed t i (drop i l) ≡ true
 unfolding slots_allowed
 allowed-past t l i h = rw drop_of_length-le
+
+-- ---- a place that a curve names
+
+pub where-named : {b c : Bool} (t : List Float) (p : ℕ) → b ≡ c → allowed_where b t p ≡ allowed_where c t p
+where-named t p h = rw h
+
+pub where-curve : {b c : Bool} {p q : ℕ} (t : List Float) → b ≡ c → p ≡ q → allowed_where (not b) t p ≡ allowed_where (not c) t q
+where-curve t h e = rw (h, e)
 
 -- ---- a place, as far as the slice reaches
 

@@ -175,3 +175,12 @@ at-place (x ∷ xs) (suc q) r t h =
     let n : length x ≡ 7 = eqb-true (length x) 7 (and-first _ _ t) in
     let e : 7 * suc q + r ≡ length x + (7 * q + r) = omega (arith, n) in
     rw e (at-place xs q r (and-second _ _ t) h ∙ sym (get_or-append-add x (joined xs) (7 * q + r) End))
+
+-- the last command, and every row past it
+pub standard-from : (row : ℕ) → 38 ≤ row → Standard ≡ command_at row
+unfolding command_list
+standard-from row h = by-test (ltb row 39) refl
+  where
+    by-test : (t : Bool) → ltb row 39 ≡ t → Standard ≡ get_or command_list row Standard
+    by-test true p = let below : row < 39 = ltb-true row 39 p in let e : row ≡ 38 = omega arith in rw e
+    by-test false p = sym (get_or-eq_default command_list Standard (ltb-false row 39 p))

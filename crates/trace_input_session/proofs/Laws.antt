@@ -28,6 +28,17 @@ same-pointwise [] (y ∷ b) = refl
 same-pointwise (x ∷ a) [] = refl
 same-pointwise (x ∷ a) (y ∷ b) = ap (λ (r : Bool). eqb x y && r) (same-pointwise a b)
 
+pub same-lengths : (a b : List ℕ) → (length a ≡ length b → ⊥) → same_bytes a b ≡ false
+unfolding same_bytes
+same-lengths [] [] h = absurd (h refl)
+same-lengths [] (y ∷ b) h = refl
+same-lengths (x ∷ a) [] h = refl
+same-lengths (x ∷ a) (y ∷ b) h = ends (eqb x y) (same_bytes a b) (same-lengths a b (λ e. h (ap suc e)))
+  where
+    ends : (p q : Bool) → q ≡ false → (p && q) ≡ false
+    ends true q e = e
+    ends false q e = refl
+
 -- ---- the first place of a byte
 abbrev pub first_of : ℕ → List ℕ → ℕ
 first_of b s = position_or_len (λ c. eqb c b) s

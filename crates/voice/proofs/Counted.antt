@@ -22,6 +22,9 @@ pub count_most : (bs : List Bool) → count_on bs ≤ length bs
 count_most [] = omega arith
 count_most (b ∷ bs) = omega (arith, one_at_most b, count_most bs)
 
+pub most-one : (b : Bool) (n : ℕ) → n ≡ cond b 1 0 → n ≤ 1
+most-one b n e = omega (arith, one_at_most b)
+
 -- those that are on are as many as those that pass the test of being on
 pub count_on_by : (bs : List Bool) → count_by (λ b. b) bs ≡ count_on bs
 count_on_by [] = refl

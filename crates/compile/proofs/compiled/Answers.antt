@@ -20,14 +20,14 @@ returns c =
     let us = c.used_dests-used.result.items in
     let rs = c.readers-readers.result.items in
     let o = c.plan_order-planned in
-    let steps : Steps w c.verdicts-verdict.result cs us rs o.result.control o.result.order.items c.plans-plans.result.items c.routes-routes.result.items c.skips-left_out.result.items =
+    let steps : Steps w c.verdicts-verdict.result cs us rs o.result.control c.numbers-listed.result.items c.plans-plans.result.items c.routes-routes.result.items c.skips-left_out.result.items =
     record {
       judges = c.verdicts-verdict.ensures;
       takes = c.candidates-candidates.ensures;
       uses = c.used_dests-used.ensures;
       reads = rw c.deref.ensures.0 at c.readers-readers.ensures;
       rates = o.ensures.control;
-      orders = rw c.deref-2.ensures.0 at o.ensures.order;
+      orders = c.numbers-listed.ensures ∙ (rw c.deref-2.ensures.0 at o.ensures.order);
       plans = rw c.deref-3.ensures.0 at c.plans-plans.ensures;
       routes = rw c.deref-4.ensures.0 at c.routes-routes.ensures;
       skips = c.skips-left_out.ensures;

@@ -6,6 +6,7 @@ use Prim.Native.Nat.{ℕ, ◌≤◌}
 use native.Mathlib.Omega.{arith}
 use lib.ListN.{length, get_or, take}
 use Rattle.config.specs.Sizes.{slots}
+use Rattle.list.proofs.Padded.{padded-take}
 use Rattle.compile_order.specs.Marks.{rated_as, order_in}
 use Rattle.compile_order.proofs.Marked.{all_marks, placed-is, fits}
 use Rattle.compile_order.proofs.plan_order.Goals as goal
@@ -35,4 +36,5 @@ returns-clause-order c =
     let at = c.at_places-out.ensures ∙ ap (λ (l : List ℕ). map (λ i. get_or l i 0) (take o.result.count o.result.place)) c.deref-3.ensures.0 in
     let front = placed-is us rs few _ _ _ _ o.result list marks c.len.ensures.value o.ensures at in
     let back = c.deref-5.ensures.0 ∙ c.rated.ensures ∙ ap (rated_as true) c.deref-4.ensures.0 in
-    (rw c.unwrap.ensures at c.try_extend_from_slice.ensures.ok) ∙ rw (front, back) refl
+    let whole = (rw c.unwrap.ensures at c.try_extend_from_slice.ensures.ok) ∙ rw (front, back) refl in
+    rw (c.len-3.ensures.value, c.padded.ensures) (padded-take slots 0 _) ∙ whole

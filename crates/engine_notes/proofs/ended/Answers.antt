@@ -1,7 +1,11 @@
 -- `engine_notes::ended` meets its contract.
-use Rattle.engine_notes.specs.Noting.{sound_ended}
+use mathlib.Core.Path.{sym, ◌∙◌}
+use borrow.Author.Tests.{ne_eqb}
+use Rattle.refusal.proofs.Laws.{err-taken, ok-none}
 use Rattle.engine_notes.proofs.ended.Goals as goal
 
+pub returns-then-is_err : goal.returns-then-is_err
+returns-then-is_err c = rw (ne_eqb _ 0 (err-taken c.args.judged (sym c.is_err.ensures.value ∙ c.if-is_err.true)))
+
 pub returns : goal.returns
-unfolding sound_ended
-returns c = rw (c.voice_ended.ensures, c.voice_ended-2.ensures, c.voice_ended-3.ensures, c.voice_ended-4.ensures)
+returns c = rw (ok-none c.args.judged (sym c.is_err.ensures.value ∙ c.if-is_err.false)) c.stopped.ensures

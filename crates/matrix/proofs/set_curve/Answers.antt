@@ -17,7 +17,7 @@ use Rattle.matrix.specs.Which.{with_curve}
 use Rattle.slots_tables.specs.Tables.{with_table}
 use Rattle.slots_tables.specs.Rows.{table_rows, curve_allowed}
 use Rattle.matrix.specs.Edits.{slot_row, answered, tabled, set_curve}
-use Rattle.matrix.proofs.Laws.{table-rows-accepted, tabled-refused, tabled-accepted, answered-same}
+use Rattle.matrix.proofs.Laws.{table-rows-accepted, tabled-refused-by, tabled-accepted, answered-same}
 use Rattle.matrix.proofs.set_curve.Goals as goal
 
 pub returns-in_err-when : goal.returns-in_err-when
@@ -27,7 +27,7 @@ returns-in_err-when c =
     let t = a.table.now in
     let p = err_from_is_err_and c.from_residual.result c.from_residual.ensures.1 in
     let rows = table_rows (curve_allowed t a.rise a.fall) a.tables.now t in
-    let done = tabled-refused _ _ a.matrix _ a.tables.now _ (sym (judged-refused (slot_row a.n ∷ []) rows _ tt c.in_err-when.ensures)) in
+    let done = tabled-refused-by _ _ a.matrix _ a.tables.now _ (sym (judged-refused (slot_row a.n ∷ []) rows _ tt c.in_err-when.ensures)) in
     record { answer = rw (p.1, p.2) done.0; lent = done.1 }
 
 pub returns-in_err-check_table : goal.returns-in_err-check_table
@@ -40,7 +40,7 @@ returns-in_err-check_table c =
     let rows = table_rows (curve_allowed t a.rise a.fall) a.tables.now t in
     let e : number_of c.in_err-check_table.field-0.0 ≡ judged rows =
     c.in_err-check_table.ensures ∙ ap (λ (b : Bool). judged (table_rows b a.tables.now t)) c.curve_allowed-allowed.ensures in
-    let done = tabled-refused _ _ a.matrix _ a.tables.now _ (e ∙ sym (judged-then (slot_row a.n ∷ []) rows tt c.in_ok-when.ensures)) in
+    let done = tabled-refused-by _ _ a.matrix _ a.tables.now _ (e ∙ sym (judged-then (slot_row a.n ∷ []) rows tt c.in_ok-when.ensures)) in
     record { answer = rw (p.1, p.2) done.0; lent = done.1 }
 
 pub place_of-requires : goal.place_of-requires

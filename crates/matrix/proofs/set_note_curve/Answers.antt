@@ -12,7 +12,7 @@ use Rattle.slots_tables.specs.Tables.{with_table}
 use Rattle.slots_tables.specs.Rows.{table_rows}
 use Rattle.matrix.specs.Answers.{edited_said}
 use Rattle.matrix.specs.Edits.{set_note_curve}
-use Rattle.matrix.proofs.Laws.{table-rows-accepted, tabled-refused, tabled-accepted}
+use Rattle.matrix.proofs.Laws.{table-rows-accepted, tabled-refused-by, tabled-accepted}
 use Rattle.matrix.proofs.set_note_curve.Goals as goal
 
 pub returns-in_err-check_table : goal.returns-in_err-check_table
@@ -23,7 +23,7 @@ returns-in_err-check_table c =
     let p = err_from_is_err_and c.from_residual.result c.from_residual.ensures.1 in
     let e : number_of c.in_err-check_table.field-0.0 ≡ judged (table_rows (all_allowed t) a.tables.now t) =
     c.in_err-check_table.ensures ∙ ap (λ (b : Bool). judged (table_rows b a.tables.now t)) c.numbers_allowed-allowed.ensures in
-    let done = tabled-refused _ _ a.matrix _ a.tables.now _ e in
+    let done = tabled-refused-by _ _ a.matrix _ a.tables.now _ e in
     record { answer = rw (p.1, p.2) done.0; lent = done.1 }
 
 pub write_table-requires : goal.write_table-requires

@@ -7,7 +7,7 @@ use Rattle.std.proofs.lemmas.Result.{err_from_is_err_and}
 use Rattle.config.specs.Sizes.{slots}
 use Rattle.state.specs.declared.Wiring.{Wiring}
 use Rattle.model.specs.Compile.{Memories, Made}
-use Rattle.program.proofs.Compiling.{compile-early, refused-by-tables, refused-by-memory, made, values-fit, audio-fits}
+use Rattle.program.proofs.Compiling.{compile-early-by, refused-by-tables, refused-by-memory, made, values-fit, audio-fits}
 use Rattle.program.proofs.compile.Goals as goal
 
 pub returns-in_err-check_early : goal.returns-in_err-check_early
@@ -17,7 +17,7 @@ returns-in_err-check_early c =
     let w : Wiring = record { matrix = a.matrix; sources = a.sources; dests = a.dests; config = a.config } in
     let mt : List Float = a.matrix_tables.now in
     let l : Memories = record { values = a.values.now; audio = a.audio.now; tables = a.tables.now } in
-    let m = compile-early w mt l c.in_err-check_early.field-0.0 c.in_err-check_early.ensures in
+    let m = compile-early-by w mt l c.in_err-check_early.field-0.0 c.in_err-check_early.ensures in
     record { answer = rw (p.1, p.2) (sym (ap (λ (x : Made). x.answer) m)); lent = sym (ap (λ (x : Made). x.lent) m) }
 
 pub returns-then-tables_short : goal.returns-then-tables_short

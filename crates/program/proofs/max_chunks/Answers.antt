@@ -6,14 +6,14 @@ use Rattle.std.proofs.lemmas.Result.{err_from_is_err_and}
 use Rattle.config.specs.Sizes.{most_chunks, most_frames}
 use Rattle.config.proofs.Accepted.{accepted as accepted-config}
 use Rattle.program.specs.Sizes.{max_chunks_call}
-use Rattle.program.proofs.Counted.{refused, accepted}
+use Rattle.program.proofs.Counted.{refused-by, accepted}
 use Rattle.program.proofs.max_chunks.Goals as goal
 
 pub returns-in_err-check : goal.returns-in_err-check
 unfolding max_chunks_call
 returns-in_err-check c =
     let p = err_from_is_err_and c.from_residual.result c.from_residual.ensures.1 in
-    rw (p.1, p.2) (refused _ _ c.in_err-check.ensures)
+    rw (p.1, p.2) (refused-by _ _ c.in_err-check.ensures)
 
 pub returns : goal.returns
 unfolding max_chunks_call
