@@ -731,7 +731,7 @@ fn run(
     small_of(next)
 }
 
-// What has moved of the state once a call that was judged so is answered: a refused one and an empty range move nothing.
+// What has moved of the state once a call judged so is answered: a refused one and an empty range move nothing.
 pub fn answered(
     judged: Result<(), Refusal>,
     state: State,

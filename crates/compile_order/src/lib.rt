@@ -124,6 +124,7 @@ fn at_places(list: &[u16], order: &Order) -> List<u16>
 pub fn plan_order(used: &List<Used>, readers: &[Reader]) -> PlanOrder
     ensures control { result.control ≡ length (rated_as false used.now.items) }
     ensures order { take result.count result.order ≡ order_in used.now.items readers.now }
+    ensures count { result.count ≡ length (order_in used.now.items readers.now) }
 {
     let control = rated(used, false);
     let feeds = marks(readers, &control);

@@ -23,28 +23,30 @@ fn run(
         let a = trace_input_lines::ahead(&mut from, input, r);
         let line = trace_input_session::part(input, a.start, a.stop);
         let i = trace_dispatch::number_of(line, book);
-        let k = trace_dispatch::place(i);
-        let p = shelf[k];
         let h = trace_dispatch::begun(s, a.number, a.all, line, book, rt.stdout(), out);
-        let next = trace_dispatch::on_line(
-            s,
-            p,
-            i,
-            h,
-            line,
-            rt.stdout(),
-            out,
-            book,
-            desk,
-            values,
-            audio,
-            pool,
-        );
-        let t = next.state;
-        s = t;
-        let j = trace_dispatch::place(next.i);
-        let q = next.program;
-        shelf[j] = q;
+        if !trace_lines_answer::is_passed_over(h) {
+            let k = trace_dispatch::place(i);
+            let p = shelf[k];
+            let next = trace_dispatch::on_line(
+                s,
+                p,
+                i,
+                h,
+                line,
+                rt.stdout(),
+                out,
+                book,
+                desk,
+                values,
+                audio,
+                pool,
+            );
+            let t = next.state;
+            s = t;
+            let j = trace_dispatch::place(next.i);
+            let q = next.program;
+            shelf[j] = q;
+        }
         let reader = a.reader;
         r = reader;
         if a.done || trace_lines_answer::ends(s.stop) {

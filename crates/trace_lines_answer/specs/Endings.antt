@@ -37,6 +37,14 @@ stop_of (Call c n) all = cond all None (Some (TooLarge LineBytes))
 stop_of (Missing n k) all = cond all (Some (Error Malformed)) (Some (TooLarge LineBytes))
 stop_of (Wrong n k) all = cond all (Some (Error Malformed)) (Some (cut_stop n))
 
+-- whether a line is passed over: nothing stops it, and it is blank or a comment
+unfoldable pub passed_over : Option Stop → Line → Bool
+passed_over None Nothing = true
+passed_over None (Call c n) = false
+passed_over None (Missing n k) = false
+passed_over None (Wrong n k) = false
+passed_over (Some s) said = false
+
 -- a line in hand is what the grammar says of it, and has the stop of its errors
 pub record Begun (l : List ℕ) (all : Bool) (h : Hand) : Type 0 where
   pub said : h.said ≡ line_of l

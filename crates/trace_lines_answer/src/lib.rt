@@ -2,7 +2,7 @@
 #![tactic(auto)]
 
 ghost use Rattle.std.specs.Prelude.{◌≡◌, if◌then◌else◌};
-ghost use Rattle.trace_lines_answer.specs.Endings.{after_stop, Begun, stop_of, cut_stop, status_of};
+ghost use Rattle.trace_lines_answer.specs.Endings.{after_stop, Begun, stop_of, cut_stop, status_of, passed_over};
 
 mod absent;
 mod faults;
@@ -220,6 +220,14 @@ fn stop_of(said: Line, all: bool) -> Option<Stop>
         Line::Missing { .. } => Some(if all { MALFORMED } else { LONG_LINE }),
         Line::Wrong { word, .. } => Some(if all { MALFORMED } else { cut(word) }),
     }
+}
+
+// Whether a line in hand is passed over: it is blank or a comment, and does not end the session.
+#[tactic(auto, unfolding(crate::specs::Endings::passed_over))]
+pub fn is_passed_over(h: Hand) -> bool
+    ensures { result ≡ passed_over h.stop h.said }
+{
+    h.stop.is_none() && matches!(h.said, Line::Nothing)
 }
 
 // whether something stands above a line's answers: nothing above a word that is no command

@@ -47,9 +47,12 @@ fn answered_with(
     let mut state = s.state;
     state.at = at;
     let mut shelf = s.shelf;
+    let h = trace_dispatch::begun(state, number, all, line, book, stdout, out);
+    if trace_lines_answer::is_passed_over(h) {
+        return Session { state, shelf };
+    }
     let k = trace_dispatch::place(i);
     let p = shelf[k];
-    let h = trace_dispatch::begun(state, number, all, line, book, stdout, out);
     let next = trace_dispatch::on_line(
         state, p, i, h, line, stdout, out, book, desk, values, audio, pool,
     );

@@ -38,3 +38,18 @@ returns-clause-order c =
     let back = c.deref-5.ensures.0 ∙ c.rated.ensures ∙ ap (rated_as true) c.deref-4.ensures.0 in
     let whole = (rw c.unwrap.ensures at c.try_extend_from_slice.ensures.ok) ∙ rw (front, back) refl in
     rw (c.len-3.ensures.value, c.padded.ensures) (padded-take slots 0 _) ∙ whole
+
+pub returns-clause-count : goal.returns-clause-count
+unfolding order_in
+returns-clause-count c =
+    let us = c.args.used.now.items in
+    let rs = c.args.readers.now in
+    let few : length us ≤ slots = omega (arith, ap length c.deref.ensures.0, c.deref.ensures.1) in
+    let list = c.rated-control.ensures ∙ ap (rated_as false) c.deref.ensures.0 in
+    let marks = c.marks-feeds.ensures ∙ ap (all_marks rs) c.deref-2.ensures.0 in
+    let o = c.plan_order-order in
+    let at = c.at_places-out.ensures ∙ ap (λ (l : List ℕ). map (λ i. get_or l i 0) (take o.result.count o.result.place)) c.deref-3.ensures.0 in
+    let front = placed-is us rs few _ _ _ _ o.result list marks c.len.ensures.value o.ensures at in
+    let back = c.deref-5.ensures.0 ∙ c.rated.ensures ∙ ap (rated_as true) c.deref-4.ensures.0 in
+    let whole = (rw c.unwrap.ensures at c.try_extend_from_slice.ensures.ok) ∙ rw (front, back) refl in
+    c.len-3.ensures.value ∙ ap length whole
