@@ -39,9 +39,9 @@ fn past(at: usize, end: usize, len: usize) -> usize
     end + 1
 }
 
-// The session after the line of the text at a place.
+// With the line of the text at a place.
 fn played(
-    s: Session,
+    s: &mut Session,
     text: &[u8],
     at: usize,
     end: usize,
@@ -52,7 +52,7 @@ fn played(
     values: &mut [f32],
     audio: &mut [f32],
     pool: &mut [f32],
-) -> Session {
+) {
     let waiting = trace_session::waiting(s);
     trace_session::answered(
         s,
@@ -67,7 +67,7 @@ fn played(
         values,
         audio,
         pool,
-    )
+    );
 }
 
 // Plays a session's lines and prints what they answer.
@@ -86,13 +86,12 @@ fn play_lines(
     // Not a for: the step is a line, not 1.
     while at < text.len() {
         let end = trace_input_lines::line_end(text, at, text.len());
-        let next = played(
-            s, text, at, end, stdout, out, book, desk, values, audio, pool,
+        played(
+            &mut s, text, at, end, stdout, out, book, desk, values, audio, pool,
         );
-        s = next;
         at = past(at, end, text.len());
     }
-    trace_output_show::flush(stdout, out, trace_session::waiting(s));
+    trace_output_show::flush(stdout, out, trace_session::waiting(&s));
 }
 
 // Plays a case, with memories that are more than it needs.

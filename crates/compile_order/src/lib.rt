@@ -5,6 +5,7 @@
 ghost use Rattle.std.specs.Prelude.{◌≡◌, ◌≤◌, false, ◌&&◌, map, eqb, get_or, take, replicate, length};
 ghost use Rattle.config.specs.Sizes.{slots};
 ghost use Rattle.list.specs.Fill.{fill};
+ghost use Rattle.list.specs.Padded.{padded};
 ghost use Rattle.feed.specs.Marks.{pairs};
 ghost use Rattle.model.specs.Feeds.{is_it, is_among, any_reads};
 ghost use Rattle.compile_order.specs.Marks.{rated_as, feeds_other, mark_at, order_in};
@@ -125,6 +126,7 @@ pub fn plan_order(used: &List<Used>, readers: &[Reader]) -> PlanOrder
     ensures control { result.control ≡ length (rated_as false used.now.items) }
     ensures order { take result.count result.order ≡ order_in used.now.items readers.now }
     ensures count { result.count ≡ length (order_in used.now.items readers.now) }
+    ensures places { result.order ≡ padded slots 0 (order_in used.now.items readers.now) }
 {
     let control = rated(used, false);
     let feeds = marks(readers, &control);

@@ -30,17 +30,16 @@ fn clear(
 
 // ---- sessions
 
-// A session after a line of the list: the session, the list's answers so far, and whether the line starts another session.
+// After a line of the list: the list's answers so far, and whether the line starts another session.
 #[derive(Clone, Copy)]
 struct Stepped {
-    session: Session,
     tally: Tally,
     over: bool,
 }
 
 // With the line of the list that comes: what waits of the last answer is compared with it, or it is answered.
 fn step(
-    s: Session,
+    s: &mut Session,
     t: Tally,
     a: Coming,
     input: &[u8],
@@ -56,7 +55,7 @@ fn step(
     let waiting = trace_session::waiting(s);
     let u = comparing::read(t, a.number, text, stdout, out, waiting);
     let line = comparing::line_of(text);
-    let session = trace_session::answered(
+    trace_session::answered(
         s,
         comparing::room(line, waiting),
         comparing::next_line(u),
@@ -70,9 +69,8 @@ fn step(
         audio,
         pool,
     );
-    let tally = comparing::answered(u, line, out, trace_session::waiting(session));
+    let tally = comparing::answered(u, line, out, trace_session::waiting(s));
     Stepped {
-        session,
         tally,
         over: comparing::starts(text),
     }
@@ -106,8 +104,9 @@ fn replay_lines(
     let mut done = false;
     for _ in 0..u64::MAX {
         let a = trace_input_lines::ahead(file, input, r);
-        let p = step(s, t, a, input, stdout, out, book, desk, values, audio, pool);
-        s = p.session;
+        let p = step(
+            &mut s, t, a, input, stdout, out, book, desk, values, audio, pool,
+        );
         t = p.tally;
         r = a.reader;
         done = a.done;
@@ -115,7 +114,7 @@ fn replay_lines(
             break;
         }
     }
-    let tally = comparing::over(t, r.number, stdout, out, trace_session::waiting(s));
+    let tally = comparing::over(t, r.number, stdout, out, trace_session::waiting(&s));
     Replayed {
         reader: r,
         tally,

@@ -23,14 +23,13 @@ pub fn start() -> Session {
 }
 
 // how many bytes of output wait
-pub fn waiting(s: Session) -> usize {
-    let state = s.state;
-    state.at
+pub fn waiting(s: &Session) -> usize {
+    s.state.at
 }
 
 // with program number i, which the line names
 fn answered_with(
-    s: Session,
+    s: &mut Session,
     i: usize,
     at: usize,
     number: u64,
@@ -43,32 +42,25 @@ fn answered_with(
     values: &mut [f32],
     audio: &mut [f32],
     pool: &mut [f32],
-) -> Session {
-    let mut state = s.state;
-    state.at = at;
-    let mut shelf = s.shelf;
-    let h = trace_dispatch::begun(state, number, all, line, book, stdout, out);
+) {
+    s.state.at = at;
+    let h = trace_dispatch::begun(s.state, number, all, line, book, stdout, out);
     if trace_lines_answer::is_passed_over(h) {
-        return Session { state, shelf };
+        return;
     }
     let k = trace_dispatch::place(i);
-    let p = shelf[k];
+    let p = s.shelf[k];
     let next = trace_dispatch::on_line(
-        state, p, i, h, line, stdout, out, book, desk, values, audio, pool,
+        s.state, p, i, h, line, stdout, out, book, desk, values, audio, pool,
     );
     let j = trace_dispatch::place(next.i);
-    let q = next.program;
-    shelf[j] = q;
-    let after = next.state;
-    Session {
-        state: after,
-        shelf,
-    }
+    s.shelf[j] = next.program;
+    s.state = next.state;
 }
 
 // The session after a line, whole where `all` says so, with `at` bytes of output before it.
 pub fn answered(
-    s: Session,
+    s: &mut Session,
     at: usize,
     number: u64,
     all: bool,
@@ -80,9 +72,9 @@ pub fn answered(
     values: &mut [f32],
     audio: &mut [f32],
     pool: &mut [f32],
-) -> Session {
+) {
     let i = trace_dispatch::number_of(line, book);
     answered_with(
         s, i, at, number, all, line, stdout, out, book, desk, values, audio, pool,
-    )
+    );
 }
