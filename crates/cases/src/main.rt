@@ -39,7 +39,7 @@ fn past(at: usize, end: usize, len: usize) -> usize
     end + 1
 }
 
-// With the line of the text at a place.
+// Answers the line of the text at a place.
 fn played(
     s: &mut Session,
     text: &[u8],

@@ -5,6 +5,7 @@ use Rattle.trace_stops.specs.declared.Stop.{Stop}
 use Rattle.trace_stops.specs.declared.Stop.TheVariants.{Refused, Error, TooLarge}
 use Rattle.trace_stops.specs.declared.Fault.TheVariants.{Malformed}
 use Rattle.trace_stops.specs.declared.Limit.TheVariants.{LineBytes}
+use Rattle.trace_grammar_kinds.specs.declared.Kind.TheVariants.{Whole}
 use Rattle.trace_grammar.specs.Grammar.{line_of}
 use Rattle.trace_grammar.specs.declared.Line.{Line}
 use Rattle.trace_grammar.specs.declared.Line.TheVariants.{Nothing, Call, Missing, Wrong}
@@ -66,3 +67,12 @@ example-large = refl
 example-lost : status_of (Some (Error Malformed)) true ≡ 4
 unfolding status_of
 example-lost = refl
+
+-- a blank line or a comment is passed over, however long it is; a cut command is not
+example-passed-over : passed_over (stop_of Nothing false) Nothing ≡ true
+unfolding passed_over stop_of
+example-passed-over = refl
+
+example-cut : passed_over (stop_of (Missing 1 Whole) false) (Missing 1 Whole) ≡ false
+unfolding passed_over stop_of
+example-cut = refl

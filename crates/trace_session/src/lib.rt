@@ -58,7 +58,7 @@ fn answered_with(
     s.state = next.state;
 }
 
-// The session after a line, whole where `all` says so, with `at` bytes of output before it.
+// Answers a line of the session, whole where `all` says so, with `at` bytes of output before it.
 pub fn answered(
     s: &mut Session,
     at: usize,
