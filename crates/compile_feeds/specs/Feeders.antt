@@ -12,9 +12,12 @@ second-stands : last_feeder (B.Held 1) (by_dest 3 true) (of_thing_1 ∷ []) ≡ 
 unfolding of_thing_1
 second-stands = refl
 
+first-where-no-second : last_feeder (B.Held 1) (by_dest 3 true) [] ≡ by_dest 3 true
+first-where-no-second = refl
+
 of_thing_2 : Used
 of_thing_2 = record { dest = 5; voice = false; audio = false; feed = B.Held 2 }
 
-first-where-no-second : last_feeder (B.Held 1) (by_dest 3 true) (of_thing_2 ∷ []) ≡ by_dest 3 true
+first-where-second-feeds-another : last_feeder (B.Held 1) (by_dest 3 true) (of_thing_2 ∷ []) ≡ by_dest 3 true
 unfolding of_thing_2
-first-where-no-second = refl
+first-where-second-feeds-another = refl
